@@ -6,3 +6,6 @@ pub mod Computed
 pub mod Chosen
 pub mod Total
 pub mod Bits
+pub mod Steps
+pub mod Filled
+pub mod Halves

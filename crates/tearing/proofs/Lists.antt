@@ -1,9 +1,11 @@
 -- Taking members out of a list, orders of a list, and sums over one. Each law is an induction on how the member was taken out or the order
 -- made. Assumes nothing.
 use mathlib.Core.Path.{_≡_, refl, ap}
+use mathlib.Core.Logic.{⊎-elim}
 use mathlib.Core.List.{List, [], _∷_, _++_}
 use Prim.Native.Nat.{ℕ, zero, suc, _+_, _<_, _≤_}
 use native.Mathlib.Omega.{arith}
+use native.Mathlib.Nat.{eq-or-lt-of-le, le-of-suc-le-suc}
 use lib.ListN.{length, length-append}
 use Rattle.tearing.specs.Order.{Pick, here, there, Perm, none, next, upto, sum}
 
@@ -105,6 +107,13 @@ module _ (f : ℕ → ℕ) where
   pub sum-perm : {S o : List ℕ} → Perm S o → sum f S ≡ sum f o
   sum-perm none = refl
   sum-perm (next p q) = omega (arith, sum-pick p, sum-perm q)
+
+-- a part is at most the whole
+pub sum-upto : (f : ℕ → ℕ) (n u : ℕ) → u < n → f u ≤ sum f (upto n)
+sum-upto f zero u h = absurd (omega arith)
+sum-upto f (suc n) u h =
+    rw (sum-append f (upto n) (n ∷ []))
+    (⊎-elim (λ (e : u ≡ n). omega (arith, ap f e)) (λ l. omega (arith, sum-upto f n u l)) (eq-or-lt-of-le (le-of-suc-le-suc h)))
 
 pub sum-zero : (S : List ℕ) → sum (λ x. 0) S ≡ 0
 sum-zero [] = refl
