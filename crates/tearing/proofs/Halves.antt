@@ -1,14 +1,16 @@
 -- The two tables of sums. A set with one place more has that place's streams added, and a set of twelve places is one of the low six with
 -- one of the high six. Assumes nothing.
 use mathlib.Core.Path.{_≡_, refl, sym, ap, _∙_}
-use mathlib.Core.Logic.{_⊎_, inl, inr, ⊎-elim}
+use mathlib.Core.Logic.{_≢_}
 use mathlib.Core.List.{List, [], _∷_}
 use Prim.Native.Nat.{ℕ, zero, suc, _+_, _*_, _-_, _/_, _%_, _^_, _<_, _≤_, min}
 use native.Mathlib.Omega.{arith}
 use native.Mathlib.Nat.{mul-add, mul-zero, mul-comm, add-comm}
 use native.Mathlib.Decide.{decLt}
 use lib.Pow.{pow-add, pow-pos, pow-mono, shl-lt}
-use lib.ListN.{length, getD, replicate, getD-replicate}
+use borrow.Author.Count.{below-more}
+use lib.ListN.{length, getD, set, replicate, getD-replicate, length-set}
+use lib.Seq.{getD-set-same, getD-set-other}
 use Rattle.tearing.specs.Order.{upto}
 use Rattle.tearing.specs.Weight.{into, all}
 use Rattle.tearing.specs.Row.{weights, total}
@@ -42,6 +44,28 @@ into-more W from j i u h l =
       members-pow (λ w. W w u) 12 (from + j) l,
     ))
 
+-- the loop that adds the sums with one place more
+module _ (w : List ℕ) (place size : ℕ) (old : List ℕ) where
+  pub doubled-none : Doubled w place size 0 old old
+  doubled-none = record { long = refl; kept = λ k h. refl; added = λ k h. absurd (omega arith) }
+
+  pub doubled-more : (k : ℕ) (new : List ℕ) → k < size → size + k < length new → Doubled w place size k old new
+      → Doubled w place size (k + 1) old (set new (size + k) (getD new k 0 + getD w (place * 12 + k % 12) 0))
+  doubled-more k new h l d =
+      record {
+        long = length-set new (size + k) x ∙ d .long;
+        kept = λ i g. other i (λ (e : i ≡ size + k). omega arith) ∙ d .kept i g;
+        added = below-more (λ (i : ℕ). getD (set new (size + k) x) (size + i) 0 ≡ getD old i 0 + getD w (place * 12 + i % 12) 0) k
+            (λ i g. other (size + i) (λ (e : size + i ≡ size + k). omega arith) ∙ d .added i g)
+            (getD-set-same new (size + k) x 0 l ∙ omega (arith, d .kept k h));
+      }
+    where
+      x : ℕ
+      x = getD new k 0 + getD w (place * 12 + k % 12) 0
+
+      other : (i : ℕ) → i ≢ size + k → getD (set new (size + k) x) i 0 ≡ getD new i 0
+      other i n = getD-set-other new (size + k) i x 0 n
+
 -- what goes into a place from a set is part of all there is
 into-total : (w : List ℕ) (n m u : ℕ) → n ≤ 12 → u < n → into (weights w) u (members n m) ≤ total w
 into-total w n m u h l =
@@ -63,7 +87,7 @@ module _ (w : List ℕ) (from j size : ℕ) (is : size ≡ 12 * 2 ^ j) (place : 
   doubled-fits t k h =
       omega (arith, one-more k h, into-total w 12 (2 ^ from * (2 ^ j + k / 12)) (k % 12) (omega arith) (omega arith))
 
-  pub summed-more : (new : List ℕ) → Doubled w (from + j) size old new → Summed (weights w) from new (2 * size)
+  pub summed-more : (new : List ℕ) → Doubled w (from + j) size size old new → Summed (weights w) from new (2 * size)
   summed-more new d k h = elim (decLt k size) [ yes l ↦ (d .kept k l ∙ sums k l) | no f ↦ again (k - size) (omega arith) (omega arith) ]
     where
       again : (i : ℕ) → i < size → k ≡ size + i → getD new k 0 ≡ into (weights w) (k % 12) (members 12 (2 ^ from * (k / 12)))

@@ -9,3 +9,4 @@ pub mod Bits
 pub mod Steps
 pub mod Filled
 pub mod Halves
+pub mod Lowest

@@ -33,10 +33,11 @@ Filled W n l m = (j : ℕ) → j < m → Least W (members n j) (entry l j)
 abbrev pub Summed : (ℕ → ℕ → ℕ) → ℕ → List ℕ → ℕ → Type 0
 Summed W from sums size = (k : ℕ) → k < size → getD sums k 0 ≡ into W (k % 12) (members 12 (2 ^ from * (k / 12)))
 
--- the sums with those of the sets that have one place more
-pub record Doubled (w : List ℕ) (place size : ℕ) (old new : List ℕ) : Type 0 where
+-- the first size sums, and after them the first count of the same sets with one place more
+pub record Doubled (w : List ℕ) (place size count : ℕ) (old new : List ℕ) : Type 0 where
+  pub long : length new ≡ length old
   pub kept : (k : ℕ) → k < size → getD new k 0 ≡ getD old k 0
-  pub added : (k : ℕ) → k < size → getD new (size + k) 0 ≡ getD old k 0 + getD w (place * 12 + k % 12) 0
+  pub added : (k : ℕ) → k < count → getD new (size + k) 0 ≡ getD old k 0 + getD w (place * 12 + k % 12) 0
 
 -- what the streams into u from the set m weigh, by the two tables
 abbrev pub flow : List ℕ → List ℕ → ℕ → ℕ → ℕ
