@@ -76,18 +76,24 @@ into-total w n m u h l =
       all-total w n h,
     )
 
-module _ (w : List ℕ) (from j size : ℕ) (is : size ≡ 12 * 2 ^ j) (place : from + j < 12) (old : List ℕ) (sums : Summed (weights w) from old size) where
+module _ (w : List ℕ) (from j place size : ℕ) (at : place ≡ from + j) (few : place < 12) (is : size ≡ 12 * 2 ^ j) (old : List ℕ) (sums : Summed (weights w) from old size) where
   -- one place more, at the number k of the table
   one-more : (k : ℕ) → k < size
-      → into (weights w) (k % 12) (members 12 (2 ^ from * (2 ^ j + k / 12))) ≡ getD old k 0 + getD w ((from + j) * 12 + k % 12) 0
-  one-more k h = omega (arith, into-more (weights w) from j (k / 12) (k % 12) (omega arith) place, sums k h)
+      → into (weights w) (k % 12) (members 12 (2 ^ from * (2 ^ j + k / 12))) ≡ getD old k 0 + getD w (place * 12 + k % 12) 0
+  one-more k h =
+      omega (
+        arith,
+        into-more (weights w) from j (k / 12) (k % 12) (omega arith) (omega arith),
+        sums k h,
+        ap (λ (p : ℕ). getD w (p * 12 + k % 12) 0) at,
+      )
 
   -- it fits
-  pub doubled-fits : total w < 2 ^ 32 → (k : ℕ) → k < size → getD old k 0 + getD w ((from + j) * 12 + k % 12) 0 < 2 ^ 32
+  pub doubled-fits : total w < 2 ^ 32 → (k : ℕ) → k < size → getD old k 0 + getD w (place * 12 + k % 12) 0 < 2 ^ 32
   doubled-fits t k h =
       omega (arith, one-more k h, into-total w 12 (2 ^ from * (2 ^ j + k / 12)) (k % 12) (omega arith) (omega arith))
 
-  pub summed-more : (new : List ℕ) → Doubled w (from + j) size size old new → Summed (weights w) from new (2 * size)
+  pub summed-more : (new : List ℕ) → Doubled w place size size old new → Summed (weights w) from new (size * 2)
   summed-more new d k h = elim (decLt k size) [ yes l ↦ (d .kept k l ∙ sums k l) | no f ↦ again (k - size) (omega arith) (omega arith) ]
     where
       again : (i : ℕ) → i < size → k ≡ size + i → getD new k 0 ≡ into (weights w) (k % 12) (members 12 (2 ^ from * (k / 12)))
