@@ -106,13 +106,13 @@ module _ (w : List ℕ) (from j place size : ℕ) (at : place ≡ from + j) (few
 module _ (w : List ℕ) (n : ℕ) (few : n ≤ 12) (low high : List ℕ) (a : Summed (weights w) 0 low (12 * 2 ^ min n 6)) (b : Summed (weights w) 6 high (12 * 2 ^ (n - 6))) where
   low-set : (m : ℕ) → m < 2 ^ n → m % 64 < 2 ^ min n 6
   low-set m h = elim (decLt n 6) [
-    yes l ↦ (let e : min n 6 ≡ n = omega arith in rw e (omega arith))
+    | yes l ↦ (let e : min n 6 ≡ n = omega arith in rw e (omega arith))
     | no f ↦ (let e : min n 6 ≡ 6 = omega arith in rw e (omega arith))
   ]
 
   high-set : (m : ℕ) → m < 2 ^ n → m / 64 < 2 ^ (n - 6)
   high-set m h = elim (decLt n 6) [
-    yes l ↦ (let p : 2 ^ n ≤ 2 ^ 6 = pow-mono {j = 6} (omega arith) in omega (arith, pow-pos (n - 6)))
+    | yes l ↦ (let p : 2 ^ n ≤ 2 ^ 6 = pow-mono {j = 6} (omega arith) in omega (arith, pow-pos (n - 6)))
     | no f ↦ (let e : n ≡ n - 6 + 6 = omega arith in omega (arith, ap (λ (x : ℕ). 2 ^ x) e, pow-add 2 (n - 6) 6))
   ]
 

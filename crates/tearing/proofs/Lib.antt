@@ -1,12 +1,13 @@
--- The laws of orders and what they tear: `Settled`, `Chosen` and `Total` are for callers.
+-- The laws of orders and what they tear. Callers cite `Chosen` (what the best order is), `Total` (the bound on the weights) and `Settled`.
+pub mod Chosen
+pub mod Total
+pub mod Settled
 pub mod Lists
 pub mod Torn
 pub mod Weight
 pub mod Computed
-pub mod Chosen
-pub mod Total
 pub mod Bits
 pub mod Steps
-pub mod Filled
 pub mod Halves
 pub mod Lowest
+pub mod Filled

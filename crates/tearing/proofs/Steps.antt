@@ -100,7 +100,7 @@ module _ (W : ℕ → ℕ → ℕ) (k m : ℕ) where
               first = λ p r.
                   let b = begins r refl some in
                   elim (decLt (b .0) u) [
-                    yes l ↦ inl (omega (arith, mine, b .6, first (b .0) l (b .4), rest (b .0) (b .3) (b .4) .below (b .1) (b .5)))
+                    | yes l ↦ inl (omega (arith, mine, b .6, first (b .0) l (b .4), rest (b .0) (b .3) (b .4) .below (b .1) (b .5)))
                     | no f ↦ against b (eq-or-lt-of-le (omega arith))
                   ];
             }

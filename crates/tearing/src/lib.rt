@@ -75,18 +75,18 @@ fn least(low: &[u32; 768], high: &[u32; 768], n: usize, work: &[u8], m: usize) -
     requires { ⌜ Room (via (now low) (now high) (now work) m) n m (now work) ⌝ }
     ensures { λ r. ⌜ Lowest (via (now (low .entry)) (now (high .entry)) (now (work .entry)) m) n m r ⌝ }
 {
-    let mut lightest: u32 = 4294967295;
+    let mut lowest: u32 = 4294967295;
     let mut u: usize = 0;
     while u < n {
         if has(m, u) == 1 {
             let torn = begun(low, high, work, m, u);
-            if torn < lightest {
-                lightest = torn;
+            if torn < lowest {
+                lowest = torn;
             }
         }
         u += 1;
     }
-    lightest
+    lowest
 }
 
 // Fills the table, in the sets' order. What lies beyond its four bytes a set stays.

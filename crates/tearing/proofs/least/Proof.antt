@@ -1,4 +1,4 @@
--- `least` meets its contract. The loop stands at u: the lightest is that of the members below u. Assumes nothing.
+-- `least` meets its contract. The loop stands at u: the lowest of the members below u is known. Assumes nothing.
 use mathlib.Core.Path.{_≡_, refl, sym, _∙_}
 use mathlib.Core.Logic.{⊎-elim}
 use Prim.Native.Nat.{ℕ, _≤_, _-_, _^_}
@@ -10,10 +10,10 @@ use Rattle.tearing.proofs.least.Statement.{statement}
 use Rattle.tearing.proofs.least.Tie as tie
 
 abbrev Inv-loop : tie.InvT-loop
-Inv-loop low high n work m lightest₀ u₀ lightest u = (u ≤ n) × ((begin : ℕ) × Min (via low high work m) m (2 ^ 32 - 1) u lightest begin)
+Inv-loop low high n work m lowest₀ u₀ lowest u = (u ≤ n) × ((begin : ℕ) × Min (via low high work m) m (2 ^ 32 - 1) u lowest begin)
 
 abbrev μ-loop : tie.MeasureT-loop
-μ-loop low high n work m lightest₀ u₀ lightest u = n - u
+μ-loop low high n work m lowest₀ u₀ lowest u = n - u
 
 loop-holds : tie.Need-loop-holds Inv-loop μ-loop
 loop-holds c = (omega arith, (0, min-none _ _ _ 0))
@@ -48,13 +48,13 @@ loop-again c =
       ⊎-elim
           (λ w.
           let b : bit (l .u) (a .m) ≡ 1 = omega (arith, has, w .0 .taken) in
-          let e : c .if1 .lightest ≡ f (l .u) = w .3 ∙ w .1 .ensures in
-          (l .u, rw e (min-take f (a .m) (2 ^ 32 - 1) (l .u) (l .lightest) begin i b (omega (arith, w .2 .taken, w .1 .ensures)))))
+          let e : c .if1 .lowest ≡ f (l .u) = w .3 ∙ w .1 .ensures in
+          (l .u, rw e (min-take f (a .m) (2 ^ 32 - 1) (l .u) (l .lowest) begin i b (omega (arith, w .2 .taken, w .1 .ensures)))))
           (⊎-elim
           (λ w.
-          (begin, rw (w .3) (min-keep f (a .m) (2 ^ 32 - 1) (l .u) (l .lightest) begin i (λ b. omega (arith, w .2 .left, w .1 .ensures)))))
+          (begin, rw (w .3) (min-keep f (a .m) (2 ^ 32 - 1) (l .u) (l .lowest) begin i (λ b. omega (arith, w .2 .left, w .1 .ensures)))))
           (λ w.
-          (begin, rw (w .1) (min-keep f (a .m) (2 ^ 32 - 1) (l .u) (l .lightest) begin i (λ b. absurd (w .0 .left (has ∙ b)))))))
+          (begin, rw (w .1) (min-keep f (a .m) (2 ^ 32 - 1) (l .u) (l .lowest) begin i (λ b. absurd (w .0 .left (has ∙ b)))))))
           (c .if1 .came),
     )
 
@@ -64,7 +64,7 @@ returns c =
     let l = c .before .loop in
     let e : l .u ≡ a .n = omega arith in
     let i = l .inv .1 .1 in
-    min-lowest _ (a .n) (a .m) (a .work .now) (c .before .before .before .pre) (l .lightest) (l .inv .1 .0) (rw e at i)
+    min-lowest _ (a .n) (a .m) (a .work .now) (c .before .before .before .pre) (l .lowest) (l .inv .1 .0) (rw e at i)
 
 pub least-spec : {M : Type 1} → statement M
 least-spec =
