@@ -45,20 +45,20 @@ fn double(weights: &[u32; 144], place: usize, size: usize, sums: &mut [u32; 768]
     }
 }
 
-// What the streams into each place weigh together from each set of the places from `from` up to `to`.
-fn half(weights: &[u32; 144], from: usize, to: usize) -> [u32; 768]
+// What the streams into each place weigh together from each set of the places from `from` up to `to`. The table has the empty set's, which
+// are zero, already.
+fn half(weights: &[u32; 144], from: usize, to: usize, sums: &mut [u32; 768])
     requires { ⌜ (from ≤ 6) × (to ≤ from + 6) × (total (now weights) < 2 ^ 32) ⌝ }
-    ensures { λ r. ⌜ Summed (weightsOf (now (weights .entry))) from r (12 * 2 ^ (to - from)) ⌝ }
+    requires { ⌜ (length (now sums) ≡ 768) × Summed (weightsOf (now weights)) from (now sums) 12 ⌝ }
+    ensures { λ _. ⌜ Summed (weightsOf (now (weights .entry))) from (now (sums .exit)) (12 * 2 ^ (to - from)) ⌝ }
 {
-    let mut sums: [u32; 768] = [0; 768];
     let mut size: usize = 12;
     let mut place = from;
     while place < to {
-        double(weights, place, size, &mut sums);
+        double(weights, place, size, sums);
         size *= 2;
         place += 1;
     }
-    sums
 }
 
 // What an order of the set m tears at least that begins with u: the streams into u from the set, and the least of the rest.
@@ -151,8 +151,10 @@ pub fn order(weights: &[u32; 144], n: usize, work: &mut [u8]) -> [u8; 12]
     requires { ⌜ (n ≤ 12) × (total (now weights) < 2 ^ 32) × (65536 ≤ length (now work)) ⌝ }
     ensures { λ r. ⌜ Ordered (now (weights .entry)) n (now (work .entry)) (now (work .exit)) r ⌝ }
 {
-    let low = half(weights, 0, lower(n));
-    let high = half(weights, 6, n);
+    let mut low: [u32; 768] = [0; 768];
+    half(weights, 0, lower(n), &mut low);
+    let mut high: [u32; 768] = [0; 768];
+    half(weights, 6, n, &mut high);
     fill(&low, &high, n, work);
     let row = read_off(&low, &high, n, work);
     words::clear_front(work, 4 * one(n));

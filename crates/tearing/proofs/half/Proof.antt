@@ -4,10 +4,10 @@ use Prim.Native.Nat.{ℕ, suc, _+_, _*_, _-_, _^_, _≤_, _<_}
 use native.Mathlib.Omega.{arith}
 use native.Mathlib.Nat.{pow-succ'}
 use lib.Pow.{pow-mono}
-use lib.ListN.{length, length-replicate}
+use lib.ListN.{length}
 use Rattle.tearing.specs.Row.{weights as weightsOf}
 use Rattle.tearing.specs.Table.{Summed}
-use Rattle.tearing.proofs.Halves.{summed-none, doubled-fits, summed-more}
+use Rattle.tearing.proofs.Halves.{doubled-fits, summed-more}
 use Rattle.tearing.proofs.half.Statement.{statement}
 use Rattle.tearing.proofs.half.Tie as tie
 
@@ -26,7 +26,7 @@ loop-holds : tie.Need-loop-holds Inv-loop μ-loop
 loop-holds c =
     let a = c .args in
     let z : a .from - a .from ≡ 0 = omega arith in
-    (omega arith, omega arith, length-replicate {A = ℕ} 768 0, rw z refl, summed-none (weightsOf (a .weights .now)) (a .from) 768 (omega arith))
+    (omega arith, omega arith, c .pre .1 .0, rw z refl, c .pre .1 .1)
 
 double-requires : tie.Need-double-requires Inv-loop μ-loop
 double-requires c κs =
@@ -36,7 +36,7 @@ double-requires c κs =
     let h : 2 ^ (l .place - a .from) ≤ 2 ^ 5 = pow-mono {j = 5} (omega arith) in (
       (omega arith, omega (arith, l .inv .3), l .inv .2),
       doubled-fits (a .weights .now) (a .from) (l .place - a .from) (l .place) (l .size) (omega arith) (omega arith) (l .inv .3)
-          (l .sums) (l .inv .4) (st .pre .2),
+          (l .sums) (l .inv .4) (st .pre .0 .2),
     )
 
 mul-size : tie.Need-mul-size Inv-loop μ-loop
