@@ -7,7 +7,6 @@ use Prim.Native.Nat.{ℕ, zero, suc, _+_, _*_, _-_, _/_, _%_, _^_, _<_, _≤_}
 use native.Mathlib.Omega.{arith}
 use native.Mathlib.Nat.{pow-succ', div-one, div-div-eq-div-mul, eq-or-lt-of-le, le-of-suc-le-suc, mul-assoc}
 use lib.Pow.{pow-pos}
-use lib.ListN.{length}
 use Rattle.tearing.specs.Order.{Pick, here, there, upto, sum}
 use Rattle.tearing.specs.Weight.{into, all}
 use Rattle.tearing.specs.Table.{bit, only, members}

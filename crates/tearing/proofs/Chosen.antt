@@ -1,16 +1,17 @@
 -- What the planner may say of the order it is given, for any weights: `best W n` is the order that rule 3 chooses, no other is, and it goes by
 -- the weights between the places below n alone. Assumes nothing.
-use mathlib.Core.Path.{_≡_, refl, sym, ap, _∙_}
-use mathlib.Core.Logic.{_⊎_, inl, inr, ⊎-elim}
-use mathlib.Core.List.{List, [], _∷_, _++_}
-use Prim.Native.Nat.{ℕ, zero, suc, _+_, _<_, _≤_}
+use mathlib.Core.Path.{_≡_, sym, _∙_}
+use mathlib.Core.Logic.{inl, inr, ⊎-elim}
+use mathlib.Core.List.{List}
+use Prim.Native.Nat.{ℕ, _-_, _<_, _≤_}
 use native.Mathlib.Omega.{arith}
 use native.Mathlib.Nat.{eq-or-lt-of-le}
-use lib.ListN.{length}
+use lib.ListN.{length, getD, take, replicate, length-append, length-replicate, List·getD-append}
+use lib.Seq.{take-at}
 use Rattle.tearing.specs.Order.{Perm, upto, torn, Lex, Chosen}
 use Rattle.tearing.specs.Weight.{weight, Best}
-use Rattle.tearing.specs.Best.{best}
-use Rattle.tearing.proofs.Lists.{perm-length, length-upto, Each, each-perm, upto-below, Distinct, rising-upto, rising-distinct}
+use Rattle.tearing.specs.Best.{best, bestRow}
+use Rattle.tearing.proofs.Lists.{perm-length, length-upto, Each, each-perm, each-at, upto-below, Distinct, distinct-perm, rising-upto, rising-distinct}
 use Rattle.tearing.proofs.Torn.{torn-weight, torn-agree}
 use Rattle.tearing.proofs.Computed.{best-is, best-only}
 
@@ -64,6 +65,9 @@ module _ (W : ℕ → ℕ → ℕ) (n : ℕ) where
   pub best-below : Each (λ x. x < n) (best W n)
   best-below = each-perm (λ x. x < n) best-order (upto-below n)
 
+  pub best-distinct : Distinct (best W n)
+  best-distinct = distinct-perm best-order (rising-distinct (upto n) (rising-upto n))
+
   -- no order of the places tears less
   pub best-least : (p : List ℕ) → Perm (upto n) p → torn W (upto n) (best W n) ≤ torn W (upto n) p
   best-least = chosen .least
@@ -71,6 +75,23 @@ module _ (W : ℕ → ℕ → ℕ) (n : ℕ) where
   -- and of those that tear as little it is the first
   pub best-first : (p : List ℕ) → Perm (upto n) p → torn W (upto n) p ≡ torn W (upto n) (best W n) → Lex (best W n) p
   best-first = chosen .first
+
+-- the row of twelve that holds it
+module _ (W : ℕ → ℕ → ℕ) (n : ℕ) (few : n ≤ 12) where
+  pub row-length : length (bestRow W n) ≡ 12
+  unfolding bestRow
+  row-length = rw (length-append, best-length W n, length-replicate) (omega arith)
+
+  pub row-order : take n (bestRow W n) ≡ best W n
+  unfolding bestRow
+  row-order = take-at (best W n) (replicate (12 - n) 0) n (best-length W n)
+
+  pub row-at : (i : ℕ) → i < n → getD (bestRow W n) i 0 ≡ getD (best W n) i 0
+  unfolding bestRow
+  row-at i h = List·getD-append (best W n) (replicate (12 - n) 0) 0 i (omega (arith, best-length W n))
+
+  pub row-below : (i : ℕ) → i < n → getD (bestRow W n) i 0 < n
+  row-below i h = rw (row-at i h) (each-at (λ x. x < n) (best W n) i (omega (arith, best-length W n)) (best-below W n))
 
 -- weights that agree on the places below n choose the same order
 pub best-agree : (W X : ℕ → ℕ → ℕ) (n : ℕ) → ((i j : ℕ) → i < n → j < n → W i j ≡ X i j) → best W n ≡ best X n
@@ -83,3 +104,7 @@ best-agree W X n h =
       least = λ p q. omega (arith, c .least p q, t p, t (best W n));
       first = λ p q e. c .first p q (t p ∙ e ∙ sym (t (best W n)));
     })
+
+pub row-agree : (W X : ℕ → ℕ → ℕ) (n : ℕ) → ((i j : ℕ) → i < n → j < n → W i j ≡ X i j) → bestRow W n ≡ bestRow X n
+unfolding bestRow
+row-agree W X n h = rw (best-agree W X n h)

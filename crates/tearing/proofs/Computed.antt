@@ -1,16 +1,16 @@
 -- `best` is the best order of the places below n. What the scan holds is before every order that begins with a place it has seen; as the
 -- places rise, of two that tear as little the one that begins earlier is first. Assumes nothing.
 use mathlib.Core.Path.{_≡_, refl, sym, ap, _∙_, subst}
-use mathlib.Core.Logic.{_⊎_, inl, inr, ⊎-elim}
+use mathlib.Core.Logic.{inl, inr, ⊎-elim}
 use mathlib.Core.List.{List, [], _∷_, _++_, append-assoc}
-use Prim.Native.Nat.{ℕ, zero, suc, _+_, _<_, _≤_}
+use Prim.Native.Nat.{ℕ, zero, suc, _<_, _≤_}
 use native.Mathlib.Omega.{arith}
 use native.Mathlib.Decide.{decLe}
 use native.Mathlib.Nat.{eq-or-lt-of-le}
 use borrow.Author.Tests.{le-leb, lt-leb}
 use lib.ListN.{length}
-use Rattle.tearing.specs.Order.{Pick, here, there, Perm, none, next, upto, Lex, less, same}
-use Rattle.tearing.specs.Weight.{into, weight, Before, Best}
+use Rattle.tearing.specs.Order.{Pick, here, there, Perm, none, next, upto, less, same}
+use Rattle.tearing.specs.Weight.{weight, Before, Best}
 use Rattle.tearing.specs.Best.{Found, lighter, begun, scan, bestOf, best}
 use Rattle.tearing.proofs.Lists.{pick-length, pick-middle, length-upto, Each, each-pick, Rising, rising-pick, rising-upto}
 use Rattle.tearing.proofs.Weight.{best-unique, weight-next, best-nil}

@@ -1,18 +1,18 @@
 -- The table in the working memory: one more entry, and one more place of the order read off it. Assumes nothing.
 use mathlib.Core.Path.{_≡_, refl, sym, ap, _∙_}
-use mathlib.Core.Logic.{_⊎_, inl, inr, ⊎-elim}
+use mathlib.Core.Logic.{inl}
 use mathlib.Core.List.{List, [], _∷_, _++_, append-nil, append-assoc}
 use Prim.Native.Nat.{ℕ, zero, suc, _+_, _*_, _-_, _^_, _<_, _≤_}
 use native.Mathlib.Omega.{arith}
 use native.Mathlib.Numerals.{add-one}
 use borrow.Author.Count.{below-more}
-use lib.ListN.{length, take, drop, set, replicate, length-set, take-append-drop}
+use lib.ListN.{length, take, drop, set, replicate, take-append-drop}
 use lib.Seq.{take-suc-set, drop-cons, drop-set-lt}
-use Rattle.words.specs.Words.{numberAt, withNumber}
+use Rattle.words.specs.Words.{withNumber}
 use Rattle.words.proofs.Numbers.{read-back, read-elsewhere}
 use Rattle.tearing.specs.Order.{upto}
 use Rattle.tearing.specs.Weight.{into, Best, Least}
-use Rattle.tearing.specs.Best.{best, bestRow}
+use Rattle.tearing.specs.Best.{bestRow}
 use Rattle.tearing.specs.Table.{bit, members, entry, Filled, via, Sums, Room, Lowest, First}
 use Rattle.tearing.proofs.Lists.{pick-length, length-upto}
 use Rattle.tearing.proofs.Bits.{members-zero, members-full, pick-members}

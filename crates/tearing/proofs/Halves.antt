@@ -2,8 +2,8 @@
 -- one of the high six. Assumes nothing.
 use mathlib.Core.Path.{_≡_, refl, sym, ap, _∙_}
 use mathlib.Core.Logic.{_≢_}
-use mathlib.Core.List.{List, [], _∷_}
-use Prim.Native.Nat.{ℕ, zero, suc, _+_, _*_, _-_, _/_, _%_, _^_, _<_, _≤_, min}
+use mathlib.Core.List.{List}
+use Prim.Native.Nat.{ℕ, _+_, _*_, _-_, _/_, _%_, _^_, _<_, _≤_, min}
 use native.Mathlib.Omega.{arith}
 use native.Mathlib.Nat.{mul-add, mul-zero, mul-comm, add-comm}
 use native.Mathlib.Decide.{decLt}
@@ -12,9 +12,9 @@ use borrow.Author.Count.{below-more}
 use lib.ListN.{length, getD, set, replicate, getD-replicate, length-set}
 use lib.Seq.{getD-set-same, getD-set-other}
 use Rattle.tearing.specs.Order.{upto}
-use Rattle.tearing.specs.Weight.{into, all}
+use Rattle.tearing.specs.Weight.{into}
 use Rattle.tearing.specs.Row.{weights, total}
-use Rattle.tearing.specs.Table.{bit, members, Summed, Doubled, flow, Sums}
+use Rattle.tearing.specs.Table.{members, Summed, Doubled, flow, Sums}
 use Rattle.tearing.proofs.Lists.{sum-upto}
 use Rattle.tearing.proofs.Bits.{members-zero, members-beyond, members-join, members-pow, members-most}
 use Rattle.tearing.proofs.Total.{all-total}

@@ -6,7 +6,7 @@ use mathlib.Core.List.{List, [], _∷_, _++_}
 use Prim.Native.Nat.{ℕ, zero, suc, _+_, _<_, _≤_}
 use native.Mathlib.Omega.{arith}
 use native.Mathlib.Nat.{eq-or-lt-of-le, le-of-suc-le-suc}
-use lib.ListN.{length, length-append}
+use lib.ListN.{length, getD, length-append}
 use Rattle.tearing.specs.Order.{Pick, here, there, Perm, none, next, upto, sum}
 
 pub pick-length : {u : ℕ} {S R : List ℕ} → Pick u S R → length S ≡ suc (length R)
@@ -42,6 +42,11 @@ module _ (P : ℕ → Type 0) where
   pub each-append : (S T : List ℕ) → Each P S → Each P T → Each P (S ++ T)
   each-append [] T h k = k
   each-append (x ∷ S) T h k = (h .0, each-append S T (h .1) k)
+
+  pub each-at : (S : List ℕ) (i : ℕ) → i < length S → Each P S → P (getD S i 0)
+  each-at [] i l h = absurd (omega arith)
+  each-at (x ∷ S) zero l h = h .0
+  each-at (x ∷ S) (suc i) l h = each-at S i (omega arith) (h .1)
 
 pub each-map : (P Q : ℕ → Type 0) (S : List ℕ) → ((x : ℕ) → P x → Q x) → Each P S → Each Q S
 each-map P Q [] f h = h

@@ -2,19 +2,31 @@
 -- torn, its own with them, and those out of it are not; among the others nothing changes when it is taken away. Assumes nothing.
 use mathlib.Core.Path.{_≡_, refl, sym, ap, _∙_}
 use mathlib.Core.List.{List, [], _∷_}
-use Prim.Native.Nat.{ℕ, zero, suc, _+_, _<_, _≤_}
+use Prim.Native.Nat.{ℕ, zero, suc, _+_, _<_}
 use native.Mathlib.Omega.{arith}
 use borrow.Author.Tests.{eq-eqb, ne-eqb, le-ltb, lt-ltb}
+use lib.ListN.{length, getD}
 use lib.Dec.{ltb, leb·suc-suc}
 use Rattle.tearing.specs.Order.{Perm, upto, choose, placeOf, standsBefore, sum, torn}
-use Rattle.tearing.specs.Weight.{into, weight}
-use Rattle.tearing.proofs.Lists.{Each, each-map, Distinct, distinct-perm, sum-perm, sum-agree, sum-same, sum-add, sum-zero, upto-below}
+use Rattle.tearing.specs.Weight.{weight}
+use Rattle.tearing.proofs.Lists.{each-at, each-map, Distinct, distinct-perm, sum-perm, sum-agree, sum-same, sum-add, sum-zero, upto-below}
 
 place-first : (u : ℕ) (o : List ℕ) → placeOf u (u ∷ o) ≡ 0
 place-first u o = rw (eq-eqb u u refl)
 
 place-later : (u v : ℕ) (o : List ℕ) → (u ≡ v → ⊥) → placeOf v (u ∷ o) ≡ suc (placeOf v o)
 place-later u v o n = rw (ne-eqb v u (λ (e : v ≡ u). n (sym e)))
+
+-- what stands at i in an order of distinct places has i before it
+pub place-at : (o : List ℕ) (i : ℕ) → Distinct o → i < length o → placeOf (getD o i 0) o ≡ i
+place-at [] i d h = absurd (omega arith)
+place-at (u ∷ o) zero d h = place-first u o
+place-at (u ∷ o) (suc i) d h =
+    place-later u (getD o i 0) o (each-at (λ x. u ≡ x → ⊥) o i (omega arith) (d .0)) ∙ ap suc (place-at o i (d .1) (omega arith))
+
+-- so of two that stand at i and at j the one stands before the other where i is below j
+pub stands-at : (o : List ℕ) (i j : ℕ) → Distinct o → i < length o → j < length o → standsBefore (getD o i 0) (getD o j 0) o ≡ ltb i j
+stands-at o i j d h k = rw (place-at o i d h, place-at o j d k)
 
 module _ (W : ℕ → ℕ → ℕ) where
   -- what of the streams from i to j is torn

@@ -1,7 +1,7 @@
 -- The total of a row of weights, and that it bounds all weights between places below twelve: these are the numbers of the row, a place's
 -- twelve after those of the place before it. Assumes nothing.
-use mathlib.Core.Path.{_≡_, refl, sym, ap, _∙_}
-use mathlib.Core.List.{List, [], _∷_, _++_}
+use mathlib.Core.Path.{_≡_, refl, ap, _∙_}
+use mathlib.Core.List.{List, [], _∷_}
 use Prim.Native.Nat.{ℕ, zero, suc, _+_, _*_, _-_, _<_, _≤_}
 use native.Mathlib.Omega.{arith}
 use lib.ListN.{length, getD, set, replicate}
@@ -21,6 +21,10 @@ unfolding total
 total-set [] i x h = absurd (omega arith)
 total-set (y ∷ w) zero x h = omega arith
 total-set (y ∷ w) (suc i) x h = omega (arith, total-set w i x (omega arith))
+
+-- so a weight that is added to a number of the row is added to the total
+pub total-add : (w : List ℕ) (i x : ℕ) → i < length w → total (set w i (getD w i 0 + x)) ≡ total w + x
+total-add w i x h = omega (arith, total-set w i (getD w i 0 + x) h)
 
 -- the first k numbers of the row
 abbrev front : List ℕ → ℕ → ℕ

@@ -1,11 +1,11 @@
 -- What is best and what is least, for a set of any places. Assumes nothing.
-use mathlib.Core.Path.{_≡_, refl, sym, ap, _∙_}
-use mathlib.Core.Logic.{_⊎_, inl, inr, ⊎-elim}
+use mathlib.Core.Path.{_≡_, refl, ap, _∙_}
+use mathlib.Core.Logic.{inl, inr, ⊎-elim}
 use mathlib.Core.List.{List, [], _∷_}
-use Prim.Native.Nat.{ℕ, zero, suc, _+_, _<_, _≤_}
+use Prim.Native.Nat.{ℕ, _+_, _≤_}
 use native.Mathlib.Omega.{arith}
 use lib.ListN.{length}
-use Rattle.tearing.specs.Order.{Pick, Perm, none, next, sum, Lex, end, less, same}
+use Rattle.tearing.specs.Order.{Pick, Perm, none, next, Lex, end, less, same}
 use Rattle.tearing.specs.Weight.{into, weight, Before, Best, Least, all}
 use Rattle.tearing.proofs.Lists.{pick-length, sum-pick, sum-perm, sum-same, sum-mono}
 

@@ -1,5 +1,5 @@
 // The order of a block's units that tears least: rules 2, 3 and 5. A unit is its place in the block, from 0 to at most 11, and the weights
-// are a row of twelve by twelve numbers, whatever they weigh. A table in the working memory holds, for each set of the places, the least that
+// are a row of twelve by twelve numbers, whatever they stand for. A table in the working memory holds, for each set of the places, the least that
 // an order of that set tears; it is filled in the sets' order, and the best order is read off it from the whole set down.
 ghost use mathlib.Core.Path.{_≡_};
 ghost use Prim.Native.Nat.{ℕ, _+_, _*_, _-_, _^_, _%_, _<_, _≤_, min};
@@ -89,7 +89,7 @@ fn least(low: &[u32; 768], high: &[u32; 768], n: usize, work: &[u8], m: usize) -
     lowest
 }
 
-// Fills the table, in the sets' order. What lies beyond its four bytes a set stays.
+// Fills the table, in the sets' order, for whatever weights W the two tables hold the sums of. What lies beyond its four bytes a set stays.
 fn fill(low: &[u32; 768], high: &[u32; 768], n: usize, work: &mut [u8])
     requires { ⌜ (n ≤ 12) × (4 * 2 ^ n ≤ length (now work)) ⌝ }
     requires { ⌜ ((W : ℕ → ℕ → ℕ) × Sums W n (now low) (now high)) ⌝ }
@@ -127,7 +127,7 @@ fn first(low: &[u32; 768], high: &[u32; 768], n: usize, work: &[u8], m: usize) -
     begin
 }
 
-// Reads the best order off the filled table.
+// Reads the best order off the table, filled for whatever weights W the two tables hold the sums of.
 fn read_off(low: &[u32; 768], high: &[u32; 768], n: usize, work: &[u8]) -> [u8; 12]
     requires { ⌜ (n ≤ 12) × (4 * 2 ^ n ≤ length (now work)) ⌝ }
     requires { ⌜ ((W : ℕ → ℕ → ℕ) × Sums W n (now low) (now high) × Filled W n (now work) (2 ^ n)) ⌝ }

@@ -1,5 +1,5 @@
 -- `begun` meets its contract: the rest of the set is the set less its digit, and the sum is within 32 bits as asked. Assumes nothing.
-use mathlib.Core.Path.{_≡_, ap}
+use mathlib.Core.Path.{ap}
 use Prim.Native.Nat.{ℕ, _-_}
 use native.Mathlib.Omega.{arith}
 use Rattle.tearing.specs.Table.{entry}

@@ -1,7 +1,7 @@
 -- `read_off` meets its contract. The loop stands at i, with the set m of the places still to be ordered: what is read so far, followed by the
 -- best order of m, is the best order of all. Assumes nothing.
-use mathlib.Core.Path.{_≡_, refl, ap, _∙_}
-use Prim.Native.Nat.{ℕ, _+_, _*_, _-_, _^_, _≤_, _<_}
+use mathlib.Core.Path.{_≡_, refl}
+use Prim.Native.Nat.{ℕ, _+_, _-_, _^_, _≤_, _<_}
 use native.Mathlib.Omega.{arith}
 use lib.Pow.{pow-pos}
 use lib.ListN.{length, drop, replicate, length-set}
