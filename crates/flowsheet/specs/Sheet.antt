@@ -50,6 +50,10 @@ found Nowhere = false
 unfoldable pub knownEnd : List ℕ → ℕ → Bool
 knownEnd us e = cond (eqb e 0) true (found (placeOf us e))
 
+-- "1 to 9,999, strictly rising": 0, or the number k where n is out of range or does not rise above the one before it
+unfoldable pub numberFault : ℕ → ℕ → ℕ → ℕ
+numberFault n last k = cond (leb 1 n && (leb n 9999 && ltb last n)) 0 k
+
 -- 10, "weight out of range"
 unfoldable pub weightFault : ℕ → ℕ
 weightFault w = cond (leb 1 w && leb w 1000) 0 10

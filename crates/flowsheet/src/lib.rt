@@ -3,9 +3,9 @@ ghost use mathlib.Core.Path.{_≡_};
 ghost use Prim.Native.Nat.{ℕ, _+_, _*_, _≤_, _<_};
 ghost use lib.ListN.{length};
 ghost use mathlib.Core.List.{[]};
-ghost use Rattle.flowsheet.specs.Sheet.{unitsOf, heldUnits, placeOf, knownEnd, weightFault, streamFault};
-ghost use Rattle.flowsheet.specs.Image.{headerOf, laidOut, unitRecordOf, unitTableOf};
-ghost use Rattle.flowsheet.specs.Answers.{unitNumberOf};
+ghost use Rattle.flowsheet.specs.Sheet.{unitsOf, streamsOf, sheetOf, heldUnits, placeOf, knownEnd, numberFault, weightFault, streamFault};
+ghost use Rattle.flowsheet.specs.Image.{headerOf, laidOut, unitRecordOf, unitTableOf, streamHeld, streamRecordOf, streamTableOf, refusedWith, readingOf};
+ghost use Rattle.flowsheet.specs.Answers.{headerNumberOf, unitNumberOf, streamNumberOf};
 
 // A stream: its number, the unit that it leaves and the unit that it enters (0 for outside), and its weight.
 pub struct Stream {
@@ -95,6 +95,22 @@ fn known_end(units: Units, end: u16) -> bool
     }
 }
 
+// What is wrong with the number of a unit or a stream, after the number `last`: 0, or `fault` where it is out of range or not rising.
+fn number_fault(number: u16, last: u16, fault: u32) -> u32
+    ensures { λ r. ⌜ r ≡ numberFault number last fault ⌝ }
+{
+    if number < 1 {
+        return fault;
+    }
+    if 9999 < number {
+        return fault;
+    }
+    if number <= last {
+        return fault;
+    }
+    0
+}
+
 // What is wrong with a weight: 10, or 0 for nothing.
 pub fn weight_fault(weight: u16) -> u32
     ensures { λ r. ⌜ r ≡ weightFault weight ⌝ }
@@ -182,14 +198,9 @@ fn read_unit(image: &[u8], at: usize, last: u16) -> UnitRecord
     ensures { λ r. ⌜ r ≡ unitRecordOf (now (image .entry)) at last ⌝ }
 {
     let number = words::u16_at(image, at);
-    if number < 1 {
-        return UnitRecord::Refused(6);
-    }
-    if 9999 < number {
-        return UnitRecord::Refused(6);
-    }
-    if number <= last {
-        return UnitRecord::Refused(6);
+    let fault = number_fault(number, last, 6);
+    if fault != 0 {
+        return UnitRecord::Refused(fault);
     }
     UnitRecord::Unit(number)
 }
@@ -243,5 +254,155 @@ fn read_units(image: &[u8], count: usize) -> UnitTable
     UnitTable {
         number: 0,
         units: Units { count, numbers },
+    }
+}
+
+// The stream whose record begins at `at`.
+fn stream_at(image: &[u8], at: usize) -> Stream
+    requires { ⌜ at + 8 ≤ length (now image) ⌝ }
+    ensures { λ r. ⌜ r ≡ streamHeld (now (image .entry)) at ⌝ }
+{
+    Stream {
+        number: words::u16_at(image, at),
+        source: words::u16_at(image, at + 2),
+        receiver: words::u16_at(image, at + 4),
+        weight: words::u16_at(image, at + 6),
+    }
+}
+
+// The stream record at `at`, after the stream numbered `last`: tried for 7, 8, 9 and 10.
+fn read_stream(image: &[u8], at: usize, last: u16, units: Units) -> StreamRecord
+    requires { ⌜ at + 8 ≤ length (now image) ⌝ }
+    ensures { λ r. ⌜ r ≡ streamRecordOf (now (image .entry)) at last (heldUnits units) ⌝ }
+{
+    let stream = stream_at(image, at);
+    let number = stream.number;
+    let order = number_fault(number, last, 7);
+    if order != 0 {
+        return StreamRecord::Refused(order);
+    }
+    let fault = stream_fault(units, stream);
+    if fault != 0 {
+        return StreamRecord::Refused(fault);
+    }
+    StreamRecord::Held(stream)
+}
+
+// The number that a stream record is refused with.
+fn stream_refusal(answer: StreamRecord) -> u32
+    ensures { λ r. ⌜ r ≡ streamNumberOf answer ⌝ }
+{
+    match answer {
+        StreamRecord::Held(_) => 0,
+        StreamRecord::Refused(number) => number,
+    }
+}
+
+// What stands in a place beyond the streams.
+const NO_STREAM: Stream = Stream {
+    number: 0,
+    source: 0,
+    receiver: 0,
+    weight: 0,
+};
+
+// No streams.
+fn no_streams() -> Streams
+    ensures { λ r. ⌜ r ≡ streamsOf [] ⌝ }
+{
+    Streams {
+        count: 0,
+        records: [NO_STREAM; 256],
+    }
+}
+
+// What reading the stream table answers: 0 and the streams, or the refusal's number and none.
+struct StreamTable {
+    number: u32,
+    streams: Streams,
+}
+
+// The streams in table order; reading stops at the first record that is refused.
+fn read_streams(image: &[u8], units: Units, count: usize) -> StreamTable
+    requires { ⌜ (units .count ≤ 64) × (count ≤ 256) × (16 + 2 * units .count + 8 * count ≤ length (now image)) ⌝ }
+    ensures { λ r. ⌜ r ≡ streamTableOf (now (image .entry)) (units .count) (heldUnits units) count ⌝ }
+{
+    let start = 16 + 2 * units.count;
+    let mut records: [Stream; 256] = [NO_STREAM; 256];
+    let mut last: u16 = 0;
+    let mut i: usize = 0;
+    while i < count {
+        let answer = read_stream(image, start + 8 * i, last, units);
+        let StreamRecord::Held(stream) = answer else {
+            return StreamTable {
+                number: stream_refusal(answer),
+                streams: no_streams(),
+            };
+        };
+        records[i] = stream;
+        last = stream.number;
+        i += 1;
+    }
+    StreamTable {
+        number: 0,
+        streams: Streams { count, records },
+    }
+}
+
+// The number that a header is refused with.
+fn header_refusal(answer: Header) -> u32
+    ensures { λ r. ⌜ r ≡ headerNumberOf answer ⌝ }
+{
+    match answer {
+        Header::Counts(_, _) => 0,
+        Header::Refused(number) => number,
+    }
+}
+
+// A flowsheet of no units and no streams.
+pub fn empty() -> Flowsheet
+    ensures { λ r. ⌜ r ≡ sheetOf [] [] ⌝ }
+{
+    Flowsheet {
+        units: no_units(),
+        streams: no_streams(),
+    }
+}
+
+// A refusal under that number.
+fn refused(number: u32) -> Reading
+    ensures { λ r. ⌜ r ≡ refusedWith number ⌝ }
+{
+    Reading {
+        number,
+        sheet: empty(),
+    }
+}
+
+// Reads an image: 0 and the flowsheet, or the first of the refusals 1 to 10 that the table gives. Every row of bytes is
+// answered, and the image stays as it stood.
+pub fn read(image: &[u8]) -> Reading
+    ensures { λ r. ⌜ r ≡ readingOf (now (image .entry)) ⌝ }
+{
+    let answer = read_header(image);
+    let Header::Counts(units, streams) = answer else {
+        return refused(header_refusal(answer));
+    };
+    let unit_table = read_units(image, units);
+    if unit_table.number != 0 {
+        return refused(unit_table.number);
+    }
+    let held = unit_table.units;
+    let stream_table = read_streams(image, held, streams);
+    if stream_table.number != 0 {
+        return refused(stream_table.number);
+    }
+    let carried = stream_table.streams;
+    Reading {
+        number: 0,
+        sheet: Flowsheet {
+            units: held,
+            streams: carried,
+        },
     }
 }

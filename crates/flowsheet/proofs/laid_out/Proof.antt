@@ -1,7 +1,7 @@
 use mathlib.Core.Path.{_≡_, refl, sym, ap, _∙_}
 use Rattle.words.specs.Words.{numberAt}
 use Prim.Native.Nat.{_+_, _*_}
-use Rattle.flowsheet.specs.Image.{laidOut, headerNumber, headerOf, headerAs, unitNumber, unitRecordOf, unitAs}
+use Rattle.flowsheet.specs.Image.{laidOut, headerNumber, headerOf, headerAs, unitRecordOf, unitAs}
 use borrow.Author.Tests.{lt-ltb, le-ltb, le-leb, lt-leb, eq-eqb, ne-eqb, not-true, not-false}
 use borrow.Author.Needs.{needs}
 use Rattle.flowsheet.proofs.laid_out.Statement.{statement}

@@ -1,4 +1,4 @@
-use Rattle.flowsheet.specs.Image.{laidOut, headerNumber, headerOf, headerAs, unitNumber, unitRecordOf, unitAs}
+use Rattle.flowsheet.specs.Image.{laidOut, headerNumber, headerOf, headerAs, unitRecordOf, unitAs}
 use borrow.Author.Tests.{lt-ltb, le-ltb, le-leb, lt-leb, eq-eqb, ne-eqb, not-true, not-false}
 use borrow.Author.Needs.{needs}
 use Rattle.flowsheet.proofs.read_header.Statement.{statement}

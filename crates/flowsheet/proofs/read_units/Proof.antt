@@ -5,8 +5,8 @@ use Rattle.flowsheet.proofs.First.{first-none, first-given, first-step,
 use Rattle.words.proofs.Rows.{padded-table}
 use Rattle.words.specs.Words.{numberAt}
 use mathlib.Core.List.{List}
-use Rattle.flowsheet.specs.Sheet.{unitsOf}
-use Rattle.flowsheet.specs.Image.{first, before, firstFrom, unitAt, unitNumberAt, unitsNumber, unitTableOf, unitNumber, unitRecordOf, unitAs, unitsAs}
+use Rattle.flowsheet.specs.Sheet.{numberFault}
+use Rattle.flowsheet.specs.Image.{first, before, firstFrom, unitAt, unitNumberAt, unitsNumber, unitTableOf, unitRecordOf, unitAs, unitsAs}
 use Rattle.words.proofs.Rows.{padded-none, length-table}
 use Rattle.words.specs.Rows.{padded, table}
 use Prim.Native.Nat.{ℕ, _+_, _*_, _-_, _≤_}
@@ -75,10 +75,10 @@ returns c =
     let l = c .before .before .before .before .before .before .loop in
     let img : List ℕ = a .image .now in
     let n : ℕ = numberAt 2 img (16 + 2 * l .i) in
-    let m : ℕ = unitNumber (l .last) n in
+    let m : ℕ = numberFault n (l .last) 6 in
     let r = c .before .before .before .before .read-unit .ensures in
     let e = sym r ∙ c .before .before .enum-told .given .1 in
-    let some = unit-refused m n (c .before .before .enum-told .given .0 .0) e .1 in
+    let some = unit-refused m n (c .before .before .enum-told .given .0 .0) e in
     let at : unitNumberAt img (l .i) ≡ m = rw (l .inv .2) in
     let all : unitsNumber img (a .count) ≡ m =
     l .inv .3
@@ -111,7 +111,7 @@ loop-again c =
     let l = c .before .before .before .before .before .loop in
     let img : List ℕ = a .image .now in
     let e = sym (c .before .before .before .read-unit .ensures) ∙ c .before .answer .given .1 in
-    let u = unit-read (unitNumber (l .last) (numberAt 2 img (16 + 2 * l .i))) (numberAt 2 img (16 + 2 * l .i)) (c .before .answer .given .0 .0) e in
+    let u = unit-read (numberFault (numberAt 2 img (16 + 2 * l .i)) (l .last) 6) (numberAt 2 img (16 + 2 * l .i)) (c .before .answer .given .0 .0) e in
     let none : unitNumberAt img (l .i) ≡ 0 = rw (← l .inv .2) (u .0) in (
       omega arith,
       rw (l .inv .1, u .1) (padded-table (unitAt img) 64 0 (l .i) (omega arith)),
