@@ -1,4 +1,8 @@
 -- The laws of the flowsheet and its image that the crates above cite.
 pub mod Places
 pub mod First
+pub mod Held
+pub mod Exact
+pub mod Written
 mod Records
+mod Parts

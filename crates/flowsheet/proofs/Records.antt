@@ -1,13 +1,13 @@
 -- What a record's answer tells: that nothing was refused and which record it is, or the number that it is refused with. Assumes nothing.
-use mathlib.Core.Path.{_≡_, refl}
+use mathlib.Core.Path.{_≡_, refl, ap, _∙_}
 use mathlib.Core.List.{List, []}
 use Prim.Native.Nat.{ℕ, zero, suc}
 use native.Mathlib.Omega.{arith}
 use Rattle.words.specs.Rows.{padded, table}
 use Rattle.words.proofs.Rows.{length-table}
 use Rattle.flowsheet.specs.Answers.{unitNumberOf, streamNumberOf, headerNumberOf}
-use Rattle.flowsheet.specs.Sheet.{noStream, unitsOf, streamsOf}
-use Rattle.flowsheet.specs.Image.{headerAs, unitAs, unitsAs, unitAt, streamAs, streamsAs, streamAt, readAs, refusedWith}
+use Rattle.flowsheet.specs.Sheet.{noStream, unitsOf, streamsOf, sheetOf}
+use Rattle.flowsheet.specs.Image.{headerAs, unitAs, unitsAs, unitAt, streamAs, streamsAs, streamAt, unitList, streamList, answerOf, readAs, refusedWith, readingOf}
 use Rattle.flowsheet.specs.declared.Stream.{Stream}
 use Rattle.flowsheet.specs.declared.UnitRecord.{UnitRecord}
 use Rattle.flowsheet.specs.declared.UnitRecord.the-variants.{Unit, Refused as UnitRefused}
@@ -86,6 +86,23 @@ streams-read k l u n e = rw (e, length-table (streamAt l u) n)
 
 -- ---- the whole
 
-pub read-refused : (k : ℕ) (l : List ℕ) → (k ≡ 0 → ⊥) → readAs k l ≡ refusedWith k
+pub units-number : (k : ℕ) (l : List ℕ) (n : ℕ) → unitsAs k l n .number ≡ k
+units-number zero l n = refl
+units-number (suc k) l n = refl
+
+pub streams-number : (k : ℕ) (l : List ℕ) (u n : ℕ) → streamsAs k l u n .number ≡ k
+streams-number zero l u n = refl
+streams-number (suc k) l u n = refl
+
+read-refused : (k : ℕ) (l : List ℕ) → (k ≡ 0 → ⊥) → readAs k l ≡ refusedWith k
 read-refused zero l f = absurd (f refl)
 read-refused (suc k) l f = refl
+
+-- an image whose answer is k is refused with k
+pub reading-refused : (l : List ℕ) (k : ℕ) → answerOf l ≡ k → (k ≡ 0 → ⊥) → readingOf l ≡ refusedWith k
+unfolding readingOf
+reading-refused l k e f = ap (λ (n : ℕ). readAs n l) e ∙ read-refused k l f
+
+pub reading-accepted : (l : List ℕ) → answerOf l ≡ 0 → readingOf l ≡ record { number = 0; sheet = sheetOf (unitList l) (streamList l) }
+unfolding readingOf
+reading-accepted l e = rw e

@@ -2,3 +2,5 @@
 pub mod Sheet
 pub mod Answers
 pub mod Image
+pub mod Exactly
+pub mod Written

@@ -1,0 +1,24 @@
+-- What a flowsheet of some units and streams holds is those units and streams. Assumes nothing.
+use mathlib.Core.Path.{_≡_, refl}
+use mathlib.Core.List.{List}
+use Prim.Native.Nat.{ℕ}
+use lib.ListN.{length}
+use Rattle.words.proofs.Rows.{take-padded}
+use Rattle.flowsheet.specs.Sheet.{noStream, unitsOf, streamsOf, heldUnits, heldStreams}
+use Rattle.flowsheet.specs.declared.Stream.{Stream}
+
+pub units-count : (us : List ℕ) → unitsOf us .count ≡ length us
+unfolding unitsOf
+units-count us = refl
+
+pub streams-count : (ss : List Stream) → streamsOf ss .count ≡ length ss
+unfolding streamsOf
+streams-count ss = refl
+
+pub held-units : (us : List ℕ) → heldUnits (unitsOf us) ≡ us
+unfolding unitsOf heldUnits
+held-units us = take-padded 64 0 us
+
+pub held-streams : (ss : List Stream) → heldStreams (streamsOf ss) ≡ ss
+unfolding streamsOf heldStreams
+held-streams ss = take-padded 256 noStream ss
