@@ -1,24 +1,24 @@
 -- Reading refuses an image with a number exactly when the table gives that number, and accepts it exactly when the table gives none.
 -- Every image is accepted or has a refusal (`decided`), and a refusal or an acceptance fixes the answer (`refusal-is`, `accepted-is`);
 -- the rest follows from these two. Assumes nothing.
-use mathlib.Core.Path.{_≡_, refl, sym, ap, _∙_, subst}
-use mathlib.Core.Logic.{_⊎_, inl, inr, ⊎-elim}
 use mathlib.Core.Bool.{Bool, true, false, cond, _&&_}
-use mathlib.Core.List.{List, [], _∷_}
-use Prim.Native.Nat.{ℕ, zero, suc, _+_, _*_, _≤_, _<_}
+use mathlib.Core.List.{List}
+use mathlib.Core.Logic.{_⊎_, inl, inr, ⊎-elim}
+use mathlib.Core.Path.{_≡_, refl, sym, ap, _∙_, subst}
+use Prim.Native.Nat.{ℕ, zero, suc, _≤_, _<_}
+use native.Mathlib.Decide.{decLt}
 use native.Mathlib.Omega.{arith}
-use native.Mathlib.Decide.{decLt, decLe}
 use borrow.Author.Tests.{lt-ltb, le-ltb, le-leb, lt-leb, eq-eqb, ne-eqb, eqb-true, eqb-false, leb-true, ltb-true}
 use lib.Dec.{eqb, leb, ltb}
 use lib.ListN.{length, getD}
 use Rattle.words.specs.Words.{numberAt}
-use Rattle.flowsheet.specs.Sheet.{placeOf, found, numberFault, knownEnd, weightFault, streamFault}
-use Rattle.flowsheet.specs.Image.{before, editionOf, spareOf, unitCount, streamCount, laidOut, headerNumber, unitAt, unitNumberAt, unitsNumber, streamNumber, streamNumberAt, unitList, answerOf}
-use Rattle.flowsheet.specs.declared.Stream.{Stream}
-use Rattle.flowsheet.specs.declared.Place.the-variants.{At, Nowhere}
-use Rattle.flowsheet.proofs.Places.{place-found, place-nowhere, place-cases}
-use Rattle.flowsheet.proofs.First.{first-none, first-given, first-all, first-at, search-first}
 use Rattle.flowsheet.specs.Exactly.{SpareZero, LaidOut, GoodHeader, HeaderRefusal, short, edition, spare, counts, layout, Numbered, Known, Sound, Fault, end, outside, weight, streamIn, streamNumberIn, GoodStream, StreamRefusal, number, fault, Refusal, header, unit, stream, Accepted}
+use Rattle.flowsheet.specs.Image.{before, editionOf, spareOf, unitCount, streamCount, laidOut, headerNumber, unitAt, unitNumberAt, unitsNumber, streamNumber, streamNumberAt, unitList, answerOf}
+use Rattle.flowsheet.specs.Sheet.{placeOf, found, numberFault, knownEnd, weightFault, streamFault}
+use Rattle.flowsheet.specs.declared.Place.the-variants.{At, Nowhere}
+use Rattle.flowsheet.specs.declared.Stream.{Stream}
+use Rattle.flowsheet.proofs.First.{first-none, first-given, first-all, first-at, search-first}
+use Rattle.flowsheet.proofs.Places.{place-found, place-nowhere, place-cases}
 
 -- two numbers are equal or not; a number is below another or not
 decEq : (a b : ℕ) → (a ≡ b) ⊎ (a ≡ b → ⊥)
@@ -48,7 +48,7 @@ spare-zero l e i h k = ⊎-elim (at 12 (omega arith)) (λ a. ⊎-elim (at 13 (om
     at : (j : ℕ) → getD l j 0 ≡ 0 → i ≡ j → getD l i 0 ≡ 0
     at j z p = ap (λ (x : ℕ). getD l x 0) p ∙ z
 
-spare-is : (l : List ℕ) → SpareZero l → spareOf l ≡ 0
+pub spare-is : (l : List ℕ) → SpareZero l → spareOf l ≡ 0
 unfolding numberAt
 spare-is l f =
     omega

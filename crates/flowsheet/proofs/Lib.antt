@@ -3,6 +3,8 @@ pub mod Places
 pub mod First
 pub mod Held
 pub mod Exact
+pub mod Good
 pub mod Written
+pub mod Settled
 mod Records
 mod Parts

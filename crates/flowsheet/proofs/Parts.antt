@@ -1,20 +1,20 @@
 -- What the parts of an image tell together: the header, then the unit table, then the stream table. Assumes nothing.
-use mathlib.Core.Path.{_≡_, sym, ap, _∙_}
 use mathlib.Core.List.{List}
+use mathlib.Core.Path.{_≡_, sym, ap, _∙_}
 use Prim.Native.Nat.{ℕ, _+_, _*_, _≤_}
 use native.Mathlib.Omega.{arith}
 use lib.ListN.{length}
 use Rattle.words.proofs.Rows.{length-table}
 use Rattle.flowsheet.specs.Answers.{headerNumberOf}
-use Rattle.flowsheet.specs.Sheet.{unitsOf, streamsOf, sheetOf, heldUnits}
-use Rattle.flowsheet.specs.Image.{unitCount, streamCount, headerOf, headerNumber, unitAt, unitsNumber, unitsAs, unitTableOf, unitList, streamsNumber, streamsAs, streamTableOf, streamList, answerOf, refusedWith, readingOf}
 use Rattle.flowsheet.specs.Exactly.{GoodHeader}
-use Rattle.flowsheet.specs.declared.UnitTable.{UnitTable}
-use Rattle.flowsheet.specs.declared.StreamTable.{StreamTable}
+use Rattle.flowsheet.specs.Image.{unitCount, streamCount, headerOf, headerNumber, unitAt, unitsNumber, unitsAs, unitTableOf, unitList, streamsNumber, streamsAs, streamTableOf, streamList, answerOf, refusedWith, readingOf}
+use Rattle.flowsheet.specs.Sheet.{unitsOf, streamsOf, sheetOf, heldUnits}
 use Rattle.flowsheet.specs.declared.Header.the-variants.{Counts, Refused as HeaderRefused}
-use Rattle.flowsheet.proofs.Held.{held-units, units-count}
-use Rattle.flowsheet.proofs.First.{first-none, first-given}
+use Rattle.flowsheet.specs.declared.StreamTable.{StreamTable}
+use Rattle.flowsheet.specs.declared.UnitTable.{UnitTable}
 use Rattle.flowsheet.proofs.Exact.{good-header-is, header-good}
+use Rattle.flowsheet.proofs.First.{first-none, first-given}
+use Rattle.flowsheet.proofs.Held.{held-units, units-count}
 use Rattle.flowsheet.proofs.Records.{header-read, header-refused, header-number, units-number, streams-number, reading-refused, reading-accepted}
 
 module _ (l : List ℕ) where

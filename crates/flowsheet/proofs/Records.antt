@@ -1,20 +1,17 @@
 -- What a record's answer tells: that nothing was refused and which record it is, or the number that it is refused with. Assumes nothing.
-use mathlib.Core.Path.{_≡_, refl, ap, _∙_}
 use mathlib.Core.List.{List, []}
+use mathlib.Core.Path.{_≡_, refl, ap, _∙_}
 use Prim.Native.Nat.{ℕ, zero, suc}
 use native.Mathlib.Omega.{arith}
 use Rattle.words.specs.Rows.{padded, table}
 use Rattle.words.proofs.Rows.{length-table}
 use Rattle.flowsheet.specs.Answers.{unitNumberOf, streamNumberOf, headerNumberOf}
-use Rattle.flowsheet.specs.Sheet.{noStream, unitsOf, streamsOf, sheetOf}
 use Rattle.flowsheet.specs.Image.{headerAs, unitAs, unitsAs, unitAt, streamAs, streamsAs, streamAt, unitList, streamList, answerOf, readAs, refusedWith, readingOf}
-use Rattle.flowsheet.specs.declared.Stream.{Stream}
-use Rattle.flowsheet.specs.declared.UnitRecord.{UnitRecord}
-use Rattle.flowsheet.specs.declared.UnitRecord.the-variants.{Unit, Refused as UnitRefused}
-use Rattle.flowsheet.specs.declared.StreamRecord.{StreamRecord}
-use Rattle.flowsheet.specs.declared.StreamRecord.the-variants.{Held, Refused as StreamRefused}
-use Rattle.flowsheet.specs.declared.Header.{Header}
+use Rattle.flowsheet.specs.Sheet.{noStream, unitsOf, streamsOf, sheetOf}
 use Rattle.flowsheet.specs.declared.Header.the-variants.{Counts, Refused as HeaderRefused}
+use Rattle.flowsheet.specs.declared.Stream.{Stream}
+use Rattle.flowsheet.specs.declared.StreamRecord.the-variants.{Held, Refused as StreamRefused}
+use Rattle.flowsheet.specs.declared.UnitRecord.the-variants.{Unit, Refused as UnitRefused}
 
 -- ---- the header
 
@@ -106,3 +103,12 @@ reading-refused l k e f = ap (λ (n : ℕ). readAs n l) e ∙ read-refused k l f
 pub reading-accepted : (l : List ℕ) → answerOf l ≡ 0 → readingOf l ≡ record { number = 0; sheet = sheetOf (unitList l) (streamList l) }
 unfolding readingOf
 reading-accepted l e = rw e
+
+-- the number of a reading is the answer
+pub reading-number : (l : List ℕ) → readingOf l .number ≡ answerOf l
+unfolding readingOf refusedWith
+reading-number l = go (answerOf l)
+  where
+    go : (k : ℕ) → readAs k l .number ≡ k
+    go zero = refl
+    go (suc k) = refl

@@ -1,8 +1,8 @@
 -- The table of refusals, number by number: when an image is refused with which of 1 to 10, and when it is accepted. `Refusal` and
 -- `Accepted` say so with no order of reading in them but the table's own; that reading answers just this is in proofs/Exact.antt.
-use mathlib.Core.Path.{_≡_}
-use mathlib.Core.Logic.{_⊎_}
 use mathlib.Core.List.{List}
+use mathlib.Core.Logic.{_⊎_}
+use mathlib.Core.Path.{_≡_}
 use Prim.Native.Nat.{ℕ, suc, _+_, _*_, _≤_, _<_}
 use lib.ListN.{length, getD}
 use Rattle.words.specs.Words.{numberAt}

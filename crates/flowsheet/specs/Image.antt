@@ -1,28 +1,24 @@
 -- The flowsheet image: where its records lie, the number that each is refused with, and what reading it answers. "Numbers are 16 bits,
 -- little-endian. Header, 16 bytes: edition (1), unit count U, stream count S, offset of the unit table, offset of the stream table, total
 -- length, then four zero bytes. The unit table starts at 16, the stream table follows at once."
-use mathlib.Core.Path.{_≡_}
-use mathlib.Core.Bool.{Bool, true, false, cond, _&&_}
+use mathlib.Core.Bool.{Bool, cond, _&&_}
 use mathlib.Core.List.{List, []}
-use Prim.Native.Nat.{ℕ, zero, suc, _+_, _*_, _≤_, _<_}
+use Prim.Native.Nat.{ℕ, zero, suc, _+_, _*_}
 use lib.Dec.{eqb, ltb, leb}
 use lib.ListN.{length}
-use Rattle.words.specs.Words.{numberAt}
 use Rattle.words.specs.Rows.{table}
+use Rattle.words.specs.Words.{numberAt}
 use Rattle.flowsheet.specs.Sheet.{unitsOf, streamsOf, sheetOf, numberFault, streamFault}
-use Rattle.flowsheet.specs.declared.Stream.{Stream}
-use Rattle.flowsheet.specs.declared.Units.{Units}
-use Rattle.flowsheet.specs.declared.Streams.{Streams}
-use Rattle.flowsheet.specs.declared.Flowsheet.{Flowsheet}
+use Rattle.flowsheet.specs.declared.Header.{Header}
+use Rattle.flowsheet.specs.declared.Header.the-variants.{Counts, Refused as HeaderRefused}
 use Rattle.flowsheet.specs.declared.Reading.{Reading}
-use Rattle.flowsheet.specs.declared.UnitTable.{UnitTable}
+use Rattle.flowsheet.specs.declared.Stream.{Stream}
+use Rattle.flowsheet.specs.declared.StreamRecord.{StreamRecord}
+use Rattle.flowsheet.specs.declared.StreamRecord.the-variants.{Held, Refused as StreamRefused}
 use Rattle.flowsheet.specs.declared.StreamTable.{StreamTable}
 use Rattle.flowsheet.specs.declared.UnitRecord.{UnitRecord}
 use Rattle.flowsheet.specs.declared.UnitRecord.the-variants.{Unit, Refused as UnitRefused}
-use Rattle.flowsheet.specs.declared.StreamRecord.{StreamRecord}
-use Rattle.flowsheet.specs.declared.StreamRecord.the-variants.{Held, Refused as StreamRefused}
-use Rattle.flowsheet.specs.declared.Header.{Header}
-use Rattle.flowsheet.specs.declared.Header.the-variants.{Counts, Refused as HeaderRefused}
+use Rattle.flowsheet.specs.declared.UnitTable.{UnitTable}
 
 -- the number a, or b where a is none: "in order"
 abbrev pub first : ℕ → ℕ → ℕ

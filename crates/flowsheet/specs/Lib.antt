@@ -3,4 +3,5 @@ pub mod Sheet
 pub mod Answers
 pub mod Image
 pub mod Exactly
+pub mod Good
 pub mod Written

@@ -1,17 +1,16 @@
 -- A flowsheet as a value: the units and the streams that it holds, and what a stream may be.
-use mathlib.Core.Path.{_≡_}
-use mathlib.Core.Bool.{Bool, true, false, cond, _&&_, _||_, not}
+use mathlib.Core.Bool.{Bool, true, false, cond, _&&_, not}
 use mathlib.Core.List.{List, [], _∷_}
-use Prim.Native.Nat.{ℕ, zero, suc, _≤_, _<_}
+use Prim.Native.Nat.{ℕ, suc}
 use lib.Dec.{eqb, ltb, leb}
 use lib.ListN.{length, take}
 use Rattle.words.specs.Rows.{padded}
-use Rattle.flowsheet.specs.declared.Stream.{Stream}
-use Rattle.flowsheet.specs.declared.Units.{Units}
-use Rattle.flowsheet.specs.declared.Streams.{Streams}
 use Rattle.flowsheet.specs.declared.Flowsheet.{Flowsheet}
 use Rattle.flowsheet.specs.declared.Place.{Place}
 use Rattle.flowsheet.specs.declared.Place.the-variants.{At, Nowhere}
+use Rattle.flowsheet.specs.declared.Stream.{Stream}
+use Rattle.flowsheet.specs.declared.Streams.{Streams}
+use Rattle.flowsheet.specs.declared.Units.{Units}
 
 -- what stands in a place beyond the streams
 abbrev pub noStream : Stream

@@ -232,14 +232,14 @@ struct UnitTable {
 }
 
 // The units in table order; reading stops at the first record that is refused.
-fn read_units(image: &[u8], count: usize) -> UnitTable
-    requires { ⌜ (count ≤ 64) × (16 + 2 * count ≤ length (now image)) ⌝ }
-    ensures { λ r. ⌜ r ≡ unitTableOf (now (image .entry)) count ⌝ }
+fn read_units(image: &[u8], units: usize) -> UnitTable
+    requires { ⌜ (units ≤ 64) × (16 + 2 * units ≤ length (now image)) ⌝ }
+    ensures { λ r. ⌜ r ≡ unitTableOf (now (image .entry)) units ⌝ }
 {
     let mut numbers: [u16; 64] = [0; 64];
     let mut last: u16 = 0;
     let mut i: usize = 0;
-    while i < count {
+    while i < units {
         let answer = read_unit(image, 16 + 2 * i, last);
         let UnitRecord::Unit(number) = answer else {
             return UnitTable {
@@ -253,7 +253,10 @@ fn read_units(image: &[u8], count: usize) -> UnitTable
     }
     UnitTable {
         number: 0,
-        units: Units { count, numbers },
+        units: Units {
+            count: units,
+            numbers,
+        },
     }
 }
 

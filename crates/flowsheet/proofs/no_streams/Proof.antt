@@ -1,14 +1,12 @@
-use Rattle.flowsheet.specs.declared.Stream.{Stream}
-use Rattle.flowsheet.specs.Sheet.{unitsOf, streamsOf, sheetOf, noStream, heldUnits, numberFault, streamFault}
+-- `flowsheet::no_streams` meets its contract. A row of 256 blank streams is the row of no streams. Assumes nothing.
 use mathlib.Core.List.{List}
-use mathlib.Core.Path.{_≡_, refl, sym, ap, _∙_}
+use mathlib.Core.Path.{ap}
 use Rattle.words.proofs.Rows.{padded-none}
+use Rattle.flowsheet.specs.Sheet.{streamsOf, noStream}
+use Rattle.flowsheet.specs.declared.Stream.{Stream}
 use Rattle.flowsheet.proofs.no_streams.Statement.{statement}
 use Rattle.flowsheet.proofs.no_streams.Tie as tie
-use Rattle.flowsheet.proofs.no_streams.Reads as reads
-use Rattle.flowsheet.proofs.no_streams.Lts as lts
 
--- src/lib.rt:310:1
 returns : tie.Need-returns
 unfolding streamsOf
 returns c = ap (λ (l : List Stream). record { count = 0; records = l }) (padded-none 256 noStream)

@@ -1,14 +1,12 @@
-use Prim.Native.Nat.{ℕ}
+-- `flowsheet::no_units` meets its contract. A row of 64 zeros is the row of no units. Assumes nothing.
 use mathlib.Core.List.{List}
-use mathlib.Core.Path.{_≡_, refl, sym, ap, _∙_}
+use mathlib.Core.Path.{ap}
+use Prim.Native.Nat.{ℕ}
 use Rattle.words.proofs.Rows.{padded-none}
-use Rattle.flowsheet.specs.Sheet.{unitsOf, heldUnits, placeOf, found, knownEnd, weightFault, streamFault}
+use Rattle.flowsheet.specs.Sheet.{unitsOf}
 use Rattle.flowsheet.proofs.no_units.Statement.{statement}
 use Rattle.flowsheet.proofs.no_units.Tie as tie
-use Rattle.flowsheet.proofs.no_units.Reads as reads
-use Rattle.flowsheet.proofs.no_units.Lts as lts
 
--- src/lib.rt:200:1
 returns : tie.Need-returns
 unfolding unitsOf
 returns c = ap (λ (l : List ℕ). record { count = 0; numbers = l }) (padded-none 64 0)

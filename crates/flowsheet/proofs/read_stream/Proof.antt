@@ -1,50 +1,38 @@
-use Rattle.flowsheet.proofs.Records.{stream-given}
-use Rattle.flowsheet.proofs.First.{first-none, first-given}
-use mathlib.Core.Path.{_≡_, refl, sym, ap, _∙_}
-use Rattle.flowsheet.specs.Sheet.{unitsOf, streamsOf, sheetOf, noStream, heldUnits, numberFault, streamFault}
-use Rattle.flowsheet.specs.Image.{first, firstFrom, before, unitRecordOf, unitAs, streamHeld, streamNumber, streamRecordOf, streamAs, refusedWith}
-use borrow.Author.Tests.{lt-ltb, le-ltb, le-leb, lt-leb, eq-eqb, ne-eqb, not-true, not-false}
+-- `flowsheet::read_stream` meets its contract. The number is tried first, then the ends and the weight. Assumes nothing.
+use mathlib.Core.Path.{sym}
 use borrow.Author.Needs.{needs}
+use Rattle.flowsheet.specs.Image.{before, streamNumber, streamRecordOf}
+use Rattle.flowsheet.proofs.First.{first-none, first-given}
+use Rattle.flowsheet.proofs.Records.{stream-given}
 use Rattle.flowsheet.proofs.read_stream.Statement.{statement}
 use Rattle.flowsheet.proofs.read_stream.Tie as tie
-use Rattle.flowsheet.proofs.read_stream.Reads as reads
-use Rattle.flowsheet.proofs.read_stream.Lts as lts
-use Rattle.flowsheet.proofs.number_fault.Reads as number-fault-reads
-use Rattle.flowsheet.proofs.stream_at.Reads as stream-at-reads
-use Rattle.flowsheet.proofs.stream_fault.Reads as stream-fault-reads
 
--- src/lib.rt:278:9
 stream-at-requires : tie.Need-stream-at-requires
 stream-at-requires c κs = search needs
 
--- src/lib.rt:280:9
 number-fault-requires : tie.Need-number-fault-requires
 number-fault-requires c κs = search needs
 
--- src/lib.rt:282:9
 returns : tie.Need-returns
 unfolding streamRecordOf streamNumber
-returns c = 
+returns c =
     let s = c .before .before .stream-at in
     let f = c .before .number-fault in
     rw (← s .ensures, ← f .ensures, first-given _ _ (c .if1 .taken)) (sym (stream-given (f .result) (s .result) (c .if1 .taken)))
 
--- src/lib.rt:284:9
 stream-fault-requires : tie.Need-stream-fault-requires
 stream-fault-requires c κs = search needs
 
--- src/lib.rt:286:9
 returns-2 : tie.Need-returns-2
 unfolding streamRecordOf streamNumber
-returns-2 c = 
+returns-2 c =
     let s = c .before .before .before .before .stream-at in
     let g = c .before .stream-fault in
     rw (← s .ensures, ← c .before .before .before .number-fault .ensures, first-none _ _ (c .before .before .if1 .left), ← g .ensures) (sym (stream-given (g .result) (s .result) (c .if2 .taken)))
 
--- src/lib.rt:274:1
 returns-3 : tie.Need-returns-3
 unfolding streamRecordOf streamNumber
-returns-3 c = 
+returns-3 c =
     let s = c .before .before .before .before .stream-at in
     rw (← s .ensures, ← c .before .before .before .number-fault .ensures, first-none _ _ (c .before .before .if1 .left), ← c .before .stream-fault .ensures, c .if2 .left)
 

@@ -1,26 +1,22 @@
-use lib.ListN.{length}
-use Rattle.flowsheet.proofs.Records.{stream-read, stream-refused, stream-number, streams-refused, streams-read}
-use Rattle.flowsheet.proofs.First.{first-none, first-given, first-step, first-end, before-more}
-use Rattle.flowsheet.specs.declared.Stream.{Stream}
-use Rattle.flowsheet.specs.Sheet.{noStream, heldUnits}
-use Rattle.flowsheet.specs.Image.{first, firstFrom, streamHeld, streamNumber, streamRecordOf, streamAt, streamBefore, streamNumberAt, streamsNumber, streamTableOf}
+-- `flowsheet::read_streams` meets its contract. The loop has read i streams, none of which is refused: the answer for all is that for the rest. The measure is the streams left. Assumes nothing.
 use mathlib.Core.List.{List}
-use Rattle.words.proofs.Rows.{padded-none, padded-table}
-use Rattle.words.specs.Rows.{padded, table}
-use Prim.Native.Nat.{ℕ, _+_, _*_, _-_, _^_, _≤_, _<_}
 use mathlib.Core.Path.{_≡_, refl, sym, ap, _∙_}
-use borrow.Author.Needs.{needs}
+use Prim.Native.Nat.{ℕ, _+_, _*_, _-_, _^_, _≤_, _<_}
 use native.Mathlib.Omega.{arith}
+use borrow.Author.Needs.{needs}
+use lib.ListN.{length}
+use Rattle.words.specs.Rows.{padded, table}
+use Rattle.words.proofs.Rows.{padded-none, padded-table}
+use Rattle.flowsheet.specs.Image.{first, firstFrom, streamHeld, streamNumber, streamRecordOf, streamAt, streamBefore, streamNumberAt, streamsNumber, streamTableOf}
+use Rattle.flowsheet.specs.Sheet.{noStream, heldUnits}
+use Rattle.flowsheet.specs.declared.Stream.{Stream}
+use Rattle.flowsheet.proofs.First.{first-none, first-given, first-step, first-end, before-more}
+use Rattle.flowsheet.proofs.Records.{stream-read, stream-refused, stream-number, streams-refused, streams-read}
 use Rattle.flowsheet.proofs.read_streams.Statement.{statement}
 use Rattle.flowsheet.proofs.read_streams.Tie as tie
-use Rattle.flowsheet.proofs.read_streams.Reads as reads
-use Rattle.flowsheet.proofs.read_streams.Lts as lts
-use Rattle.flowsheet.proofs.no_streams.Reads as no-streams-reads
-use Rattle.flowsheet.proofs.read_stream.Reads as read-stream-reads
-use Rattle.flowsheet.proofs.stream_refusal.Reads as stream-refusal-reads
 
 abbrev Inv-loop : tie.InvT-loop
-Inv-loop image units count start records₀ last₀ i₀ records last i = 
+Inv-loop image units count start records₀ last₀ i₀ records last i =
     (i ≤ count)
     × (start ≡ 16 + 2 * units .count)
     × (records ≡ padded 256 noStream (table (streamAt image (units .count)) i))
@@ -30,54 +26,43 @@ Inv-loop image units count start records₀ last₀ i₀ records last i =
 abbrev μ-loop : tie.MeasureT-loop
 μ-loop image units count start records₀ last₀ i₀ records last i = count - i
 
--- src/lib.rt:330:22
 mul-start : tie.Need-mul-start Inv-loop μ-loop
 mul-start c = let h = c .before .before .pre .0 in omega arith
 
--- src/lib.rt:330:17
 add-start : tie.Need-add-start Inv-loop μ-loop
 add-start c = let h = c .before .before .pre .0 in omega arith
 
--- src/lib.rt:334:5
 loop-holds : tie.Need-loop-holds Inv-loop μ-loop
 unfolding table
-loop-holds c = 
+loop-holds c =
     let a = c .before .before .args in
     let e : a .count ≡ a .count - 0 = omega arith in
     (omega arith, refl, padded-none 256 noStream, refl, ap (firstFrom (streamNumberAt (a .image .now) (a .units .count) (heldUnits (a .units))) 0) e)
 
--- src/lib.rt:335:49
 mul-read-stream : tie.Need-mul-read-stream Inv-loop μ-loop
 mul-read-stream c = omega arith
 
--- src/lib.rt:335:41
 add-read-stream : tie.Need-add-read-stream Inv-loop μ-loop
 add-read-stream c = let h : 16 + 2 * c .before .before .before .before .args .units .count + 8 * c .before .loop .i < 2 ^ 64 = omega arith in record { fits = h }
 
--- src/lib.rt:335:13
 read-stream-requires : tie.Need-read-stream-requires Inv-loop μ-loop
 read-stream-requires c κs = let h : 16 + 2 * c .before .before .before .before .args .units .count + 8 * c .before .loop .i + 8 ≤ length (c .before .before .before .before .args .image .now) = omega arith in h
 
--- src/lib.rt:336:32
 enum-known-answer : tie.Need-enum-known-answer Inv-loop μ-loop
 enum-known-answer c = search needs
 
--- src/lib.rt:338:25
 enum-told : tie.Need-enum-told Inv-loop μ-loop
 enum-told c = search needs
 
--- src/lib.rt:338:25
 stream-refusal-requires : tie.Need-stream-refusal-requires Inv-loop μ-loop
 stream-refusal-requires c κs = search needs
 
--- src/lib.rt:339:26
 no-streams-requires : tie.Need-no-streams-requires Inv-loop μ-loop
 no-streams-requires c κs = search needs
 
--- src/lib.rt:337:13
 returns : tie.Need-returns Inv-loop μ-loop
 unfolding streamRecordOf streamTableOf streamAt streamNumberAt
-returns c = 
+returns c =
     let a = c .before .before .before .before .before .before .before .before .before .args in
     let l = c .before .before .before .before .before .before .loop in
     let img : List ℕ = a .image .now in
@@ -97,26 +82,21 @@ returns c =
     rw (c .before .stream-refusal .ensures, r, stream-number m s, c .no-streams .ensures, all)
     (sym (streams-refused m img (a .units .count) (a .count) some))
 
--- src/lib.rt:342:9
 mul-records : tie.Need-mul-records Inv-loop μ-loop
 mul-records c = omega arith
 
--- src/lib.rt:342:9
 array-set-from-records : tie.Need-array-set-from-records Inv-loop μ-loop
 array-set-from-records c = omega arith
 
--- src/lib.rt:344:9
 add-i : tie.Need-add-i Inv-loop μ-loop
 add-i c = omega arith
 
--- src/lib.rt:334:5
 loop-less : tie.Need-loop-less Inv-loop μ-loop
 loop-less c = omega arith
 
--- src/lib.rt:334:5
 loop-again : tie.Need-loop-again Inv-loop μ-loop
 unfolding streamRecordOf streamAt streamNumberAt
-loop-again c = 
+loop-again c =
     let a = c .before .before .before .before .before .before .before .before .args in
     let l = c .before .before .before .before .before .loop in
     let img : List ℕ = a .image .now in
@@ -133,10 +113,9 @@ loop-again c =
       l .inv .4 ∙ first-step f (l .i) (a .count) (omega arith) ∙ first-none _ _ none,
     )
 
--- src/lib.rt:326:1
 returns-2 : tie.Need-returns-2 Inv-loop μ-loop
 unfolding streamTableOf
-returns-2 c = 
+returns-2 c =
     let a = c .before .before .before .before .args in
     let l = c .before .loop in
     let img : List ℕ = a .image .now in

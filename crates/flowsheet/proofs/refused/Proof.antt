@@ -1,16 +1,12 @@
-use Rattle.flowsheet.specs.Image.{first, firstFrom, before, unitRecordOf, unitAs, streamHeld, streamNumber, streamRecordOf, streamAs, refusedWith}
+-- `flowsheet::refused` meets its contract. A refusal holds an empty flowsheet. Assumes nothing.
 use borrow.Author.Needs.{needs}
+use Rattle.flowsheet.specs.Image.{refusedWith}
 use Rattle.flowsheet.proofs.refused.Statement.{statement}
 use Rattle.flowsheet.proofs.refused.Tie as tie
-use Rattle.flowsheet.proofs.refused.Reads as reads
-use Rattle.flowsheet.proofs.refused.Lts as lts
-use Rattle.flowsheet.proofs.empty.Reads as empty-reads
 
--- src/lib.rt:378:16
 empty-requires : tie.Need-empty-requires
 empty-requires c κs = search needs
 
--- src/lib.rt:373:1
 returns : tie.Need-returns
 unfolding refusedWith
 returns c = cc

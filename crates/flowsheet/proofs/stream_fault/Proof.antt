@@ -1,50 +1,38 @@
-use Rattle.flowsheet.specs.Sheet.{unitsOf, heldUnits, placeOf, found, knownEnd, weightFault, streamFault}
-use borrow.Author.Tests.{lt-ltb, le-ltb, le-leb, lt-leb, eq-eqb, ne-eqb, not-true, not-false}
+-- `flowsheet::stream_fault` meets its contract. The ends are tried first, then whether both are outside, then the weight. Assumes nothing.
 use borrow.Author.Needs.{needs}
+use borrow.Author.Tests.{eq-eqb, ne-eqb, not-true, not-false}
+use Rattle.flowsheet.specs.Sheet.{streamFault}
 use Rattle.flowsheet.proofs.stream_fault.Statement.{statement}
 use Rattle.flowsheet.proofs.stream_fault.Tie as tie
-use Rattle.flowsheet.proofs.stream_fault.Reads as reads
-use Rattle.flowsheet.proofs.stream_fault.Lts as lts
-use Rattle.flowsheet.proofs.known_end.Reads as known-end-reads
-use Rattle.flowsheet.proofs.weight_fault.Reads as weight-fault-reads
 
--- src/lib.rt:118:9
 known-end-requires : tie.Need-known-end-requires
 known-end-requires c κs = search needs
 
--- src/lib.rt:119:9
 returns : tie.Need-returns
 unfolding streamFault
 returns c = simp (← c .before .known-end .ensures, not-true (c .before .known-end .result) (c .if1 .taken))
 
--- src/lib.rt:121:9
 known-end-requires-2 : tie.Need-known-end-requires-2
 known-end-requires-2 c κs = search needs
 
--- src/lib.rt:122:9
 returns-2 : tie.Need-returns-2
 unfolding streamFault
 returns-2 c = simp (← c .before .before .before .known-end .ensures, not-false (c .before .before .before .known-end .result) (c .before .before .if1 .left), ← c .before .known-end2 .ensures, not-true (c .before .known-end2 .result) (c .if2 .taken))
 
--- src/lib.rt:125:9
 weight-fault-requires : tie.Need-weight-fault-requires
 weight-fault-requires c κs = search needs
 
--- src/lib.rt:125:9
 returns-3 : tie.Need-returns-3
 unfolding streamFault
 returns-3 c = simp (← c .before .before .before .before .before .known-end .ensures, not-false (c .before .before .before .before .before .known-end .result) (c .before .before .before .before .if1 .left), ← c .before .before .before .known-end2 .ensures, not-false (c .before .before .before .known-end2 .result) (c .before .before .if2 .left), ne-eqb _ _ (c .before .if3 .taken), c .weight-fault .ensures)
 
--- src/lib.rt:128:9
 weight-fault-requires-2 : tie.Need-weight-fault-requires-2
 weight-fault-requires-2 c κs = search needs
 
--- src/lib.rt:128:9
 returns-4 : tie.Need-returns-4
 unfolding streamFault
 returns-4 c = simp (← c .before .before .before .before .before .before .known-end .ensures, not-false (c .before .before .before .before .before .before .known-end .result) (c .before .before .before .before .before .if1 .left), ← c .before .before .before .before .known-end2 .ensures, not-false (c .before .before .before .before .known-end2 .result) (c .before .before .before .if2 .left), eq-eqb _ _ (c .before .before .if3 .left), ne-eqb _ _ (c .before .if4 .taken), c .weight-fault2 .ensures)
 
--- src/lib.rt:112:1
 returns-5 : tie.Need-returns-5
 unfolding streamFault
 returns-5 c = simp (← c .before .before .before .before .before .known-end .ensures, not-false (c .before .before .before .before .before .known-end .result) (c .before .before .before .before .if1 .left), ← c .before .before .before .known-end2 .ensures, not-false (c .before .before .before .known-end2 .result) (c .before .before .if2 .left), eq-eqb _ _ (c .before .if3 .left), eq-eqb _ _ (c .if4 .left))
