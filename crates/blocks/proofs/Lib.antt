@@ -1,0 +1,5 @@
+pub mod Bits
+pub mod Paths
+pub mod Rounds
+pub mod Rule4
+pub mod Free
