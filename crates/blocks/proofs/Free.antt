@@ -12,6 +12,11 @@ use Rattle.blocks.specs.Rule4.{Placed, here, there, Ready}
 use Rattle.blocks.proofs.Paths.{To, to-trans, both-same, same-to, same-sym, same-trans}
 use Rattle.blocks.proofs.Rule4.{placed-left, placed-last, placed-either}
 
+-- what holds of the places below k and of k
+pub each : (P : ℕ → Type 0) (k : ℕ) → ((j : ℕ) → j < k → P j) → P k → (j : ℕ) → j < suc k → P j
+each P k f p j h =
+    ⊎-elim (λ (e : j ≡ k). subst P (sym e) p) (λ (l : j < k). f j l) (eq-or-lt-of-le (le-of-suc-le-suc h))
+
 module _ {L : ℕ → ℕ → Type 0} (path? : (i j : ℕ) → Dec (Path L i j)) where
   to? : (i j : ℕ) → Dec (To L i j)
   to? i j = elim (ℕ-discrete i j) [ yes e ↦ yes (inl e) | no f ↦ go f (path? i j) ]
@@ -46,11 +51,6 @@ module _ {L : ℕ → ℕ → Type 0} (path? : (i j : ℕ) → Dec (Path L i j))
     below : i < k
     left : Placed L i done → ⊥
     back : (j : ℕ) → j < k → (Placed L j done → ⊥) → To L j i → To L i j
-
-  -- what holds of the places below k and of k
-  each : (P : ℕ → Type 0) (k : ℕ) → ((j : ℕ) → j < k → P j) → P k → (j : ℕ) → j < suc k → P j
-  each P k f p j h =
-      ⊎-elim (λ (e : j ≡ k). subst P (sym e) p) (λ (l : j < k). f j l) (eq-or-lt-of-le (le-of-suc-le-suc h))
 
   source-taken : {done : List ℕ} {k i : ℕ} → Source done k i → (Placed L k done → ⊥) → To L k i → Source done (suc k) k
   source-taken {done} {k} s f r =

@@ -1,7 +1,7 @@
 -- The block of a place, computed from a table t of reach: rule 1. "Two units share a block when they are the same unit or each
 -- reaches the other."
-use mathlib.Core.List.{List, [], _∷_, _++_}
-use Prim.Native.Nat.{ℕ, zero, suc, _^_}
+use mathlib.Core.List.{List, [], _∷_, _++_, List·Memᴰ}
+use Prim.Native.Nat.{ℕ, zero, suc, _^_, _<_}
 use lib.Bits.{bitOr, bitAnd}
 use lib.ListN.{getD}
 use Rattle.blocks.specs.Links.{bit}
@@ -32,3 +32,8 @@ placesOf (suc k) m = placesOf k m ++ only (bit k m) k
 -- The places below n of i's block, rising.
 unfoldable pub membersOf : List ℕ → ℕ → ℕ → List ℕ
 membersOf t n i = placesOf n (blockOf t n i)
+
+-- A list of places that rises.
+pub data Rising : List ℕ → Type 0 where
+  none : Rising []
+  first : {k : ℕ} {l : List ℕ} → ((j : ℕ) → List·Memᴰ j l → k < j) → Rising l → Rising (k ∷ l)

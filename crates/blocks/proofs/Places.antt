@@ -1,0 +1,220 @@
+-- Sets of places as numbers: the column of a table, the set of a block, the list of a set's places, and a list in a row of 64. The
+-- list grows at its end, as the loop that writes it does. Assumes nothing.
+use mathlib.Core.Path.{_≡_, refl, sym, ap, _∙_, subst}
+use mathlib.Core.Logic.{_⊎_, inl, inr, ⊎-elim, _↔_}
+use mathlib.Core.List.{List, [], _∷_, _++_, append-nil, append-assoc, List·Memᴰ, List·Memᴰ·head, List·Memᴰ·tail, List·Memᴰ·not-nil, List·Memᴰ·cases-cons, List·Memᴰ·append-cases, List·Memᴰ·eq-of-singleton, Memᴰ·append-left, Memᴰ·append-right}
+use Prim.Native.Nat.{ℕ, zero, suc, _+_, _-_, _^_, _<_, _≤_}
+use native.Mathlib.Omega.{arith}
+use native.Mathlib.Numerals.{add-one}
+use native.Mathlib.Nat.{eq-or-lt-of-le, le-of-suc-le-suc}
+use lib.Bits.{bitOr, bitAnd}
+use lib.ListN.{length, getD, set, take, replicate, length-append, length-replicate}
+use lib.Seq.{set-append-seam, take-append-seam, append-snoc}
+use Rattle.blocks.specs.Links.{bit, Link}
+use Rattle.blocks.specs.Reach.{joined}
+use Rattle.blocks.specs.Blocks.{columnOf, blockOf, only, placesOf, Rising, none, first}
+use Rattle.blocks.specs.Answers.{padded}
+use Rattle.blocks.proofs.Bits.{bit-lt, bit-cases, bit-zero, bit-one, bit-one-same, or-left, or-right, or-either, and-both, and-left, and-right, joined-keeps, joined-adds, joined-either}
+
+-- ---- the places that reach i
+
+pub column-has : (t : List ℕ) (k i j : ℕ) → j < k → Link t j i → bit j (columnOf t k i) ≡ 1
+unfolding columnOf
+column-has t zero i j h e = absurd (omega arith)
+column-has t (suc k) i j h e =
+    ⊎-elim
+    (λ (q : j ≡ k).
+    joined-adds (bit i (getD t k 0)) (columnOf t k i) (2 ^ k) j (subst (λ (x : ℕ). Link t x i) q e)
+    (subst (λ (x : ℕ). bit j (2 ^ x) ≡ 1) q (bit-one-same j)))
+    (λ (l : j < k). joined-keeps (bit i (getD t k 0)) (columnOf t k i) (2 ^ k) j (column-has t k i j l e))
+    (eq-or-lt-of-le (le-of-suc-le-suc h))
+
+pub column-only : (t : List ℕ) (k i j : ℕ) → bit j (columnOf t k i) ≡ 1 → (j < k) × Link t j i
+unfolding columnOf
+column-only t zero i j h = absurd (omega (arith, bit-zero j))
+column-only t (suc k) i j h =
+    ⊎-elim (λ e. old (column-only t k i j e)) new
+    (joined-either (bit i (getD t k 0)) (columnOf t k i) (2 ^ k) j (bit-lt i (getD t k 0)) h)
+  where
+    old : (j < k) × Link t j i → (j < suc k) × Link t j i
+    old s = (omega (arith, s .0), s .1)
+
+    new : (bit i (getD t k 0) ≡ 1) × (bit j (2 ^ k) ≡ 1) → (j < suc k) × Link t j i
+    new s = let e = bit-one j k (s .1) in (omega arith, subst (λ (x : ℕ). Link t x i) (sym e) (s .0))
+
+-- ---- the set of a block
+
+pub block-bit : (t : List ℕ) (n i j : ℕ) → j < n → (bit j (blockOf t n i) ≡ 1) ↔ ((i ≡ j) ⊎ (Link t i j × Link t j i))
+block-bit t n i j h = (λ e. ⊎-elim inner own (or-either j (bitAnd (getD t i 0) (columnOf t n i)) (2 ^ i) e), back)
+  where
+    inner : bit j (bitAnd (getD t i 0) (columnOf t n i)) ≡ 1 → (i ≡ j) ⊎ (Link t i j × Link t j i)
+    inner e =
+        inr (
+          and-left j (getD t i 0) (columnOf t n i) e,
+          column-only t n i j (and-right j (getD t i 0) (columnOf t n i) e) .1,
+        )
+
+    own : bit j (2 ^ i) ≡ 1 → (i ≡ j) ⊎ (Link t i j × Link t j i)
+    own e = inl (sym (bit-one j i e))
+
+    back : (i ≡ j) ⊎ (Link t i j × Link t j i) → bit j (blockOf t n i) ≡ 1
+    back (inl e) =
+        or-right j (bitAnd (getD t i 0) (columnOf t n i)) (2 ^ i) (subst (λ (x : ℕ). bit x (2 ^ i) ≡ 1) e (bit-one-same i))
+    back (inr s) =
+        or-left j (bitAnd (getD t i 0) (columnOf t n i)) (2 ^ i)
+        (and-both j (getD t i 0) (columnOf t n i) (s .0) (column-has t n i j h (s .1)))
+
+-- ---- the places of a set
+
+pub places-one : (k m : ℕ) → bit k m ≡ 1 → placesOf (suc k) m ≡ placesOf k m ++ (k ∷ [])
+unfolding placesOf
+places-one k m h = rw h
+
+pub places-none : (k m : ℕ) → bit k m ≡ 0 → placesOf (suc k) m ≡ placesOf k m
+unfolding placesOf
+places-none k m h = rw h (append-nil (placesOf k m))
+
+pub places-length : (k m : ℕ) → length (placesOf (suc k) m) ≡ length (placesOf k m) + bit k m
+places-length k m =
+    ⊎-elim
+    (λ (z : bit k m ≡ 0). omega (arith, ap length (places-none k m z)))
+    (λ (o : bit k m ≡ 1). omega (arith, ap length (places-one k m o), length-append (placesOf k m) (k ∷ [])))
+    (bit-cases k m)
+
+pub places-most : (k m : ℕ) → length (placesOf k m) ≤ k
+unfolding placesOf
+places-most zero m = omega arith
+places-most (suc k) m = omega (arith, places-length k m, places-most k m, bit-lt k m)
+
+-- a set that holds more places is longer
+pub places-more : (k m m′ : ℕ) → ((j : ℕ) → bit j m ≡ 1 → bit j m′ ≡ 1) → length (placesOf k m) ≤ length (placesOf k m′)
+unfolding placesOf
+places-more zero m m′ f = omega arith
+places-more (suc k) m m′ f =
+    let r = places-more k m m′ f in
+    ⊎-elim
+    (λ (z : bit k m ≡ 0). omega (arith, places-length k m, places-length k m′))
+    (λ (o : bit k m ≡ 1). omega (arith, places-length k m, places-length k m′, f k o))
+    (bit-cases k m)
+
+pub places-gain : (k m m′ i : ℕ) → ((j : ℕ) → bit j m ≡ 1 → bit j m′ ≡ 1) → i < k → bit i m ≡ 0 → bit i m′ ≡ 1
+    → length (placesOf k m) < length (placesOf k m′)
+places-gain zero m m′ i f h z o = absurd (omega arith)
+places-gain (suc k) m m′ i f h z o =
+    ⊎-elim
+    (λ (e : i ≡ k).
+    omega
+    (arith, places-length k m, places-length k m′, places-more k m m′ f, subst (λ (x : ℕ). bit x m ≡ 0) e z, subst (λ (x : ℕ). bit x m′ ≡ 1) e o))
+    (λ (l : i < k). grown (places-gain k m m′ i f l z o))
+    (eq-or-lt-of-le (le-of-suc-le-suc h))
+  where
+    grown : length (placesOf k m) < length (placesOf k m′) → length (placesOf (suc k) m) < length (placesOf (suc k) m′)
+    grown r =
+        ⊎-elim
+        (λ (q : bit k m ≡ 0). omega (arith, places-length k m, places-length k m′))
+        (λ (q : bit k m ≡ 1). omega (arith, places-length k m, places-length k m′, f k q))
+        (bit-cases k m)
+
+-- a set of as many places as there are holds each
+pub places-full : (k m : ℕ) → k ≤ length (placesOf k m) → (j : ℕ) → j < k → bit j m ≡ 1
+places-full zero m h j l = absurd (omega arith)
+places-full (suc k) m h j l =
+    let b = places-most k m in
+    let o : bit k m ≡ 1 = omega (arith, places-length k m, bit-lt k m) in
+    ⊎-elim
+    (λ (e : j ≡ k). subst (λ (x : ℕ). bit x m ≡ 1) (sym e) o)
+    (λ (q : j < k). places-full k m (omega (arith, places-length k m)) j q)
+    (eq-or-lt-of-le (le-of-suc-le-suc l))
+
+-- sets with the same places below k have the same list
+pub places-same : (k a b : ℕ) → ((j : ℕ) → j < k → bit j a ≡ bit j b) → placesOf k a ≡ placesOf k b
+unfolding placesOf
+places-same zero a b f = refl
+places-same (suc k) a b f = rw (f k (omega arith), places-same k a b (λ j h. f j (omega arith)))
+
+pub places-has : (k m j : ℕ) → j < k → bit j m ≡ 1 → List·Memᴰ j (placesOf k m)
+unfolding placesOf
+places-has zero m j h e = absurd (omega arith)
+places-has (suc k) m j h e =
+    ⊎-elim
+    (λ (q : j ≡ k). rw (places-one k m (subst (λ (x : ℕ). bit x m ≡ 1) q e)) (Memᴰ·append-right (placesOf k m) (List·Memᴰ·head q)))
+    (λ (l : j < k). kept (places-has k m j l e))
+    (eq-or-lt-of-le (le-of-suc-le-suc h))
+  where
+    kept : List·Memᴰ j (placesOf k m) → List·Memᴰ j (placesOf (suc k) m)
+    kept p = Memᴰ·append-left (only (bit k m) k) p
+
+only-is : (b k j : ℕ) → List·Memᴰ j (only b k) → (j ≡ k) × (0 < b)
+only-is zero k j p = absurd (List·Memᴰ·not-nil p)
+only-is (suc b) k j p = (List·Memᴰ·eq-of-singleton p, omega arith)
+
+pub places-only : (k m j : ℕ) → List·Memᴰ j (placesOf k m) → (j < k) × (bit j m ≡ 1)
+unfolding placesOf
+places-only zero m j p = absurd (List·Memᴰ·not-nil p)
+places-only (suc k) m j p =
+    ⊎-elim (λ q. old (places-only k m j q)) (λ q. new (only-is (bit k m) k j q)) (List·Memᴰ·append-cases (placesOf k m) p)
+  where
+    old : (j < k) × (bit j m ≡ 1) → (j < suc k) × (bit j m ≡ 1)
+    old s = (omega (arith, s .0), s .1)
+
+    new : (j ≡ k) × (0 < bit k m) → (j < suc k) × (bit j m ≡ 1)
+    new s =
+        let o : bit k m ≡ 1 = omega (arith, s .1, bit-lt k m) in
+        (omega (arith, s .0), subst (λ (x : ℕ). bit x m ≡ 1) (sym (s .0)) o)
+
+-- ---- lists that rise
+
+rising-more : {l : List ℕ} {k : ℕ} → Rising l → ((j : ℕ) → List·Memᴰ j l → j < k) → Rising (l ++ (k ∷ []))
+rising-more none f = first (λ j p. absurd (List·Memᴰ·not-nil p)) none
+rising-more {k = k} (first {k = x} {l = l} g r) f = first above (rising-more r (λ j p. f j (List·Memᴰ·tail p)))
+  where
+    above : (j : ℕ) → List·Memᴰ j (l ++ (k ∷ [])) → x < j
+    above j p =
+        ⊎-elim (g j)
+        (λ q. omega (arith, List·Memᴰ·eq-of-singleton q, f x (List·Memᴰ·head refl)))
+        (List·Memᴰ·append-cases l p)
+
+pub places-rising : (k m : ℕ) → Rising (placesOf k m)
+unfolding placesOf
+places-rising zero m = none
+places-rising (suc k) m = go (places-rising k m) (bit-cases k m)
+  where
+    go : Rising (placesOf k m) → (bit k m ≡ 0) ⊎ (bit k m ≡ 1) → Rising (placesOf k m ++ only (bit k m) k)
+    go r (inl z) = rw (z, append-nil) r
+    go r (inr o) = rw o (rising-more r (λ j p. places-only k m j p .0))
+
+-- two lists that rise and have the same members are equal
+pub rising-unique : {l p : List ℕ} → Rising l → Rising p → ((j : ℕ) → List·Memᴰ j l → List·Memᴰ j p) → ((j : ℕ) → List·Memᴰ j p → List·Memᴰ j l) → l ≡ p
+rising-unique none none f g = refl
+rising-unique none (first {k = y} above r) f g = absurd (List·Memᴰ·not-nil (g y (List·Memᴰ·head refl)))
+rising-unique (first {k = x} above r) none f g = absurd (List·Memᴰ·not-nil (f x (List·Memᴰ·head refl)))
+rising-unique (first {k = x} {l = l} a r) (first {k = y} {l = p} b s) f g =
+    let e : x ≡ y = heads (List·Memᴰ·cases-cons (f x (List·Memᴰ·head refl))) (List·Memᴰ·cases-cons (g y (List·Memᴰ·head refl))) in
+    let q = rising-unique r s (λ j m. beyond e (a j m) (List·Memᴰ·cases-cons (f j (List·Memᴰ·tail m)))) (λ j m. beyond (sym e) (b j m) (List·Memᴰ·cases-cons (g j (List·Memᴰ·tail m)))) in
+    cc
+  where
+    heads : (x ≡ y) ⊎ List·Memᴰ x p → (y ≡ x) ⊎ List·Memᴰ y l → x ≡ y
+    heads (inl e) v = e
+    heads (inr u) (inl e) = sym e
+    heads (inr u) (inr v) = absurd (omega (arith, b x u, a y v))
+
+    beyond : {j u v : ℕ} {o : List ℕ} → u ≡ v → u < j → (j ≡ v) ⊎ List·Memᴰ j o → List·Memᴰ j o
+    beyond e h (inl q) = absurd (omega arith)
+    beyond e h (inr m) = m
+
+-- ---- a list in a row of 64
+
+pub pad-more : (l : List ℕ) (k : ℕ) → length l < 64 → set (padded l) (length l) k ≡ padded (l ++ (k ∷ []))
+unfolding padded
+pad-more l k h =
+    let e : 64 - length l ≡ suc (64 - length (l ++ (k ∷ []))) = omega (arith, length-append l (k ∷ [])) in
+    rw (e, append-assoc) (set-append-seam l 0 (replicate (64 - length (l ++ (k ∷ []))) 0) k)
+
+pub pad-length : (l : List ℕ) → length l ≤ 64 → length (padded l) ≡ 64
+unfolding padded
+pad-length l h = rw (length-append, length-replicate) (omega arith)
+
+-- the list is the front of the row
+pub pad-front : (l : List ℕ) → take (length l) (padded l) ≡ l
+unfolding padded
+pad-front l = take-append-seam l (replicate (64 - length l) 0)
