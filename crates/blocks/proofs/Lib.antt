@@ -2,6 +2,7 @@ pub mod Bits
 pub mod Paths
 pub mod Rounds
 pub mod Places
+pub mod Turns
 pub mod Blocks
 pub mod Rule4
 pub mod Free

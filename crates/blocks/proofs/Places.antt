@@ -13,7 +13,7 @@ use lib.Seq.{set-append-seam, take-append-seam, append-snoc}
 use Rattle.blocks.specs.Links.{bit, Link}
 use Rattle.blocks.specs.Reach.{joined}
 use Rattle.blocks.specs.Blocks.{columnOf, blockOf, only, placesOf, Rising, none, first}
-use Rattle.blocks.specs.Answers.{padded}
+use Rattle.blocks.specs.Answers.{padded, Holds}
 use Rattle.blocks.proofs.Bits.{bit-lt, bit-cases, bit-zero, bit-one, bit-one-same, or-left, or-right, or-either, and-both, and-left, and-right, joined-keeps, joined-adds, joined-either}
 
 -- ---- the places that reach i
@@ -70,9 +70,12 @@ pub places-one : (k m : ℕ) → bit k m ≡ 1 → placesOf (suc k) m ≡ places
 unfolding placesOf
 places-one k m h = rw h
 
-pub places-none : (k m : ℕ) → bit k m ≡ 0 → placesOf (suc k) m ≡ placesOf k m
+places-none : (k m : ℕ) → bit k m ≡ 0 → placesOf (suc k) m ≡ placesOf k m
 unfolding placesOf
 places-none k m h = rw h (append-nil (placesOf k m))
+
+pub places-skip : (k m : ℕ) → (bit k m ≡ 1 → ⊥) → placesOf (suc k) m ≡ placesOf k m
+places-skip k m f = places-none k m (omega (arith, bit-lt k m))
 
 pub places-length : (k m : ℕ) → length (placesOf (suc k) m) ≡ length (placesOf k m) + bit k m
 places-length k m =
@@ -204,17 +207,21 @@ rising-unique (first {k = x} {l = l} a r) (first {k = y} {l = p} b s) f g =
 
 -- ---- a list in a row of 64
 
-pub pad-more : (l : List ℕ) (k : ℕ) → length l < 64 → set (padded l) (length l) k ≡ padded (l ++ (k ∷ []))
+pub holds-none : Holds [] 0 (replicate 64 0)
 unfolding padded
-pad-more l k h =
-    let e : 64 - length l ≡ suc (64 - length (l ++ (k ∷ []))) = omega (arith, length-append l (k ∷ [])) in
-    rw (e, append-assoc) (set-append-seam l 0 (replicate (64 - length (l ++ (k ∷ []))) 0) k)
+holds-none = record { many = refl; places = refl }
 
-pub pad-length : (l : List ℕ) → length l ≤ 64 → length (padded l) ≡ 64
+pub holds-more : {l row : List ℕ} {count : ℕ} (k : ℕ) → Holds l count row → count < 64 → Holds (l ++ (k ∷ [])) (count + 1) (set row count k)
 unfolding padded
-pad-length l h = rw (length-append, length-replicate) (omega arith)
+holds-more {l} {row} {count} k s h =
+    let e : 64 - length l ≡ suc (64 - length (l ++ (k ∷ []))) = omega (arith, length-append l (k ∷ []), s .many) in
+    record {
+      many = omega (arith, length-append l (k ∷ []), s .many);
+      places =
+          rw (s .places, s .many, e, append-assoc) (set-append-seam l 0 (replicate (64 - length (l ++ (k ∷ []))) 0) k);
+    }
 
--- the list is the front of the row
-pub pad-front : (l : List ℕ) → take (length l) (padded l) ≡ l
+-- the list is the front of the row, so two lists that a row holds are equal
+pub holds-front : {l row : List ℕ} {count : ℕ} → Holds l count row → take count row ≡ l
 unfolding padded
-pad-front l = take-append-seam l (replicate (64 - length l) 0)
+holds-front {l} s = rw (s .places, s .many) (take-append-seam l (replicate (64 - length l) 0))

@@ -6,9 +6,9 @@ ghost use Prim.Native.Nat.{ℕ, _<_, _≤_, _^_};
 ghost use lib.ListN.{getD};
 ghost use Rattle.blocks.specs.Links.{bit};
 ghost use Rattle.blocks.specs.Reach.{roundOf, reachOf};
-ghost use Rattle.blocks.specs.Blocks.{columnOf, blockIn};
-ghost use Rattle.blocks.specs.Order.{freeIn, lowestFree};
-ghost use Rattle.blocks.specs.Answers.{MembersAnswer, OrderAnswer};
+ghost use Rattle.blocks.specs.Blocks.{columnOf, blockIn, membersOf};
+ghost use Rattle.blocks.specs.Order.{freeIn, lowestFree, orderOf};
+ghost use Rattle.blocks.specs.Answers.{Holds};
 
 // The places of one block, rising: the first `count` of `places`. The rest are zeros.
 pub struct Block {
@@ -95,7 +95,7 @@ fn block_set(row: u64, column: u64, i: usize) -> u64
 // The places below n that share the block of `place`, rising, from the table of reach.
 pub fn members(reach: &[u64; 64], n: usize, place: usize) -> Block
     requires { ⌜ (n ≤ 64) × (place < n) ⌝ }
-    ensures { λ r. ⌜ MembersAnswer (now (reach .entry)) n place r ⌝ }
+    ensures { λ r. ⌜ Holds (membersOf (now (reach .entry)) n place) (r .count) (r .places) ⌝ }
 {
     let set = block_set(reach[place], column(reach, n, place), place);
     let mut places: [u8; 64] = [0; 64];
@@ -159,7 +159,7 @@ fn lowest_free(reach: &[u64; 64], columns: &[u64; 64], n: usize, placed: u64) ->
 // blocks all come from placed blocks, the one that holds the lowest place comes next.
 pub fn order(reach: &[u64; 64], n: usize) -> BlockOrder
     requires { ⌜ n ≤ 64 ⌝ }
-    ensures { λ r. ⌜ OrderAnswer (now (reach .entry)) n r ⌝ }
+    ensures { λ r. ⌜ Holds (orderOf (now (reach .entry)) n) (r .count) (r .first) ⌝ }
 {
     let columns = columns(reach, n);
     let mut first: [u8; 64] = [0; 64];

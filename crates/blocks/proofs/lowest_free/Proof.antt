@@ -1,3 +1,11 @@
+use Prim.Native.Nat.{ℕ, _+_, _-_, _≤_, _<_}
+use mathlib.Core.Path.{_≡_, refl, sym, ap, _∙_}
+use mathlib.Core.Bool.{Bool, true, false}
+use mathlib.Core.Logic.{⊎-elim}
+use native.Mathlib.Omega.{arith}
+use lib.ListN.{getD}
+use Rattle.blocks.specs.Order.{freeIn, free, lowestFree}
+use Rattle.blocks.proofs.Turns.{lowest-kept, lowest-found, lowest-none}
 use Rattle.blocks.proofs.lowest_free.Statement.{statement}
 use Rattle.blocks.proofs.lowest_free.Tie as tie
 use Rattle.blocks.proofs.lowest_free.Reads as reads
@@ -5,50 +13,72 @@ use Rattle.blocks.proofs.lowest_free.Lts as lts
 use Rattle.blocks.proofs.is_free.Reads as is-free-reads
 
 abbrev Inv-loop : tie.InvT-loop
-Inv-loop reach columns n placed found₀ i₀ found i = ?
+Inv-loop reach columns n placed found₀ i₀ found i = (i ≤ n) × (found ≡ lowestFree reach n placed i)
 
 abbrev μ-loop : tie.MeasureT-loop
-μ-loop reach columns n placed found₀ i₀ found i = ?
+μ-loop reach columns n placed found₀ i₀ found i = n - i
 
 -- src/lib.rt:147:5
 loop-holds : tie.Need-loop-holds Inv-loop μ-loop
-loop-holds c = ?
+unfolding lowestFree
+loop-holds c = (omega arith, refl)
 
 -- src/lib.rt:149:24
 mul-is-free : tie.Need-mul-is-free Inv-loop μ-loop
-mul-is-free c = ?
+mul-is-free c = omega arith
 
 -- src/lib.rt:149:24
 element-copy-out-is-free : tie.Need-element-copy-out-is-free Inv-loop μ-loop
-element-copy-out-is-free c = ?
+element-copy-out-is-free c = omega arith
 
 -- src/lib.rt:149:34
 mul-is-free-2 : tie.Need-mul-is-free-2 Inv-loop μ-loop
-mul-is-free-2 c = ?
+mul-is-free-2 c = omega arith
 
 -- src/lib.rt:149:34
 element-copy-out-is-free-2 : tie.Need-element-copy-out-is-free-2 Inv-loop μ-loop
-element-copy-out-is-free-2 c = ?
+element-copy-out-is-free-2 c = omega arith
 
 -- src/lib.rt:149:16
 is-free-requires : tie.Need-is-free-requires Inv-loop μ-loop
-is-free-requires c κs = ?
+is-free-requires c κs = omega arith
 
 -- src/lib.rt:153:9
 add-i : tie.Need-add-i Inv-loop μ-loop
-add-i c = ?
+add-i c = omega arith
 
 -- src/lib.rt:147:5
 loop-less : tie.Need-loop-less Inv-loop μ-loop
-loop-less c = ?
+loop-less c = omega arith
 
 -- src/lib.rt:147:5
 loop-again : tie.Need-loop-again Inv-loop μ-loop
-loop-again c = ?
+loop-again c =
+    let st = c .before .before .before in
+    let a = st .args in
+    let l = c .before .before .loop in
+    let t = a .reach .now in
+    let column = st .pre .1 (l .i) (c .before .loop-test .taken) in
+    let tested : (b r : Bool) → r ≡ freeIn (getD t (l .i) 0) (getD (a .columns .now) (l .i) 0) (a .placed) (l .i) → r ≡ b → free t (a .n) (a .placed) (l .i) ≡ b =
+    λ b r e f. ap (λ (x : ℕ). freeIn (getD t (l .i) 0) x (a .placed) (l .i)) (sym column) ∙ sym e ∙ f in (
+      omega arith,
+      ⊎-elim
+          (λ w. w .5 ∙ sym (lowest-found t (a .n) (a .placed) (l .i) (sym (l .inv .1) ∙ w .0 .taken) (tested true (w .3 .result) (w .3 .ensures) (w .4 .taken))))
+          (⊎-elim
+          (λ w.
+          w .5 ∙ w .0 .taken
+          ∙ sym (lowest-none t (a .n) (a .placed) (l .i) (sym (l .inv .1) ∙ w .0 .taken) (tested false (w .3 .result) (w .3 .ensures) (w .4 .left))))
+          (λ w. w .1 ∙ l .inv .1 ∙ sym (lowest-kept t (a .n) (a .placed) (l .i) (λ e. w .0 .left (l .inv .1 ∙ e)))))
+          (c .if1 .came),
+    )
 
 -- src/lib.rt:141:1
 returns : tie.Need-returns Inv-loop μ-loop
-returns c = ?
+returns c =
+    let a = c .before .before .args in
+    let l = c .before .loop in
+    let e : l .i ≡ a .n = omega arith in
+    rw e at (l .inv .1)
 
 pub lowest-free-spec : {M : Type 1} → statement M
 lowest-free-spec =

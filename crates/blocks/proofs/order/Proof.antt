@@ -1,0 +1,95 @@
+use Rattle.blocks.proofs.order.Statement.{statement}
+use Rattle.blocks.proofs.order.Tie as tie
+use Rattle.blocks.proofs.order.Reads as reads
+use Rattle.blocks.proofs.order.Lts as lts
+use Rattle.blocks.proofs.block_set.Reads as block-set-reads
+use Rattle.blocks.proofs.columns.Reads as columns-reads
+use Rattle.blocks.proofs.lowest_free.Reads as lowest-free-reads
+
+abbrev Inv-loop : tie.InvT-loop
+Inv-loop reach n columns first₀ count₀ placed₀ first count placed = ?
+
+abbrev μ-loop : tie.MeasureT-loop
+μ-loop reach n columns first₀ count₀ placed₀ first count placed = ?
+
+-- src/lib.rt:164:19
+columns-requires : tie.Need-columns-requires Inv-loop μ-loop
+columns-requires c κs = ?
+
+-- src/lib.rt:168:5
+loop-holds : tie.Need-loop-holds Inv-loop μ-loop
+loop-holds c = ?
+
+-- src/lib.rt:169:13
+lowest-free-requires : tie.Need-lowest-free-requires Inv-loop μ-loop
+lowest-free-requires c κs = ?
+
+-- src/lib.rt:171:13
+returns : tie.Need-returns Inv-loop μ-loop
+returns c = ?
+
+-- src/lib.rt:173:24
+cast-first : tie.Need-cast-first Inv-loop μ-loop
+cast-first c = ?
+
+-- src/lib.rt:173:9
+array-write-first : tie.Need-array-write-first Inv-loop μ-loop
+array-write-first c = ?
+
+-- src/lib.rt:174:9
+add-count : tie.Need-add-count Inv-loop μ-loop
+add-count c = ?
+
+-- src/lib.rt:175:37
+mul-block-set : tie.Need-mul-block-set Inv-loop μ-loop
+mul-block-set c = ?
+
+-- src/lib.rt:175:37
+element-copy-out-block-set : tie.Need-element-copy-out-block-set Inv-loop μ-loop
+element-copy-out-block-set c = ?
+
+-- src/lib.rt:175:47
+mul-block-set-2 : tie.Need-mul-block-set-2 Inv-loop μ-loop
+mul-block-set-2 c = ?
+
+-- src/lib.rt:175:47
+array-read-block-set : tie.Need-array-read-block-set Inv-loop μ-loop
+array-read-block-set c = ?
+
+-- src/lib.rt:175:27
+block-set-requires : tie.Need-block-set-requires Inv-loop μ-loop
+block-set-requires c κs = ?
+
+-- src/lib.rt:168:5
+loop-less : tie.Need-loop-less Inv-loop μ-loop
+loop-less c = ?
+
+-- src/lib.rt:168:5
+loop-again : tie.Need-loop-again Inv-loop μ-loop
+loop-again c = ?
+
+-- src/lib.rt:160:1
+returns-2 : tie.Need-returns-2 Inv-loop μ-loop
+returns-2 c = ?
+
+pub order-spec : {M : Type 1} → statement M
+order-spec =
+    tie.close
+    (tie.spec
+    Inv-loop
+    μ-loop
+    columns-requires
+    loop-holds
+    lowest-free-requires
+    returns
+    cast-first
+    array-write-first
+    add-count
+    mul-block-set
+    element-copy-out-block-set
+    mul-block-set-2
+    array-read-block-set
+    block-set-requires
+    loop-less
+    loop-again
+    returns-2)
