@@ -1,23 +1,26 @@
--- The loops that write a row, turn by turn: a round over the rows of a table, a column, the lowest free place. Each turn takes the
+-- The loops, turn by turn: a round over the rows of a table, a column, the lowest free place, the order. Each turn takes the
 -- definition one place further. Assumes nothing.
 use mathlib.Core.Path.{_≡_, refl, sym, ap, _∙_, subst}
 use mathlib.Core.Logic.{_≢_}
-use mathlib.Core.List.{List}
+use mathlib.Core.List.{List, [], _∷_, _++_, append-nil, append-assoc}
 use mathlib.Core.Bool.{Bool, true, false}
-use Prim.Native.Nat.{ℕ, zero, suc, _+_, _^_, _<_, _≤_}
+use Prim.Native.Nat.{ℕ, zero, suc, _+_, _-_, _^_, _<_, _≤_}
 use native.Mathlib.Omega.{arith}
 use native.Mathlib.Numerals.{add-one}
 use borrow.Author.Count.{below-more}
-use borrow.Author.Tests.{eq-eqb, ne-eqb}
+use borrow.Author.Tests.{eq-eqb, ne-eqb, lt-ltb, le-ltb}
 use lib.Bits.{bitOr}
-use lib.ListN.{length, getD, set, length-set}
+use lib.Dec.{eqb}
+use lib.ListN.{length, getD, set, replicate, length-set}
 use lib.Seq.{getD-set-same, getD-set-other, set-getD, ext-getD}
 use Rattle.blocks.specs.Links.{bit}
 use Rattle.blocks.specs.Reach.{joined, roundOf}
-use Rattle.blocks.specs.Blocks.{columnOf}
-use Rattle.blocks.specs.Order.{free, lowestFree}
+use Rattle.blocks.specs.Blocks.{columnOf, blockOf}
+use Rattle.blocks.specs.Order.{pick, free, lowestFree, orderFrom, orderOf}
+use Rattle.blocks.specs.Answers.{Holds}
 use Rattle.blocks.proofs.Bits.{bit-lt}
 use Rattle.blocks.proofs.Rounds.{row-round, length-round}
+use Rattle.blocks.proofs.Places.{holds-none, holds-more}
 
 -- the rows below i are those after round k, and the others those before it
 pub record Turned (k : ℕ) (rows next : List ℕ) (i : ℕ) : Type 0 where
@@ -78,3 +81,68 @@ module _ (t : List ℕ) (n placed k : ℕ) where
   pub lowest-none : lowestFree t n placed k ≡ n → free t n placed k ≡ false → lowestFree t n placed (k + 1) ≡ n
   unfolding lowestFree
   lowest-none e f = rw (add-one k, eq-eqb (lowestFree t n placed k) n e, f) refl
+
+pub lowest-most : (t : List ℕ) (n placed k : ℕ) → k ≤ n → lowestFree t n placed k ≤ n
+unfolding lowestFree
+lowest-most t n placed zero h = omega arith
+lowest-most t n placed (suc k) h =
+    most (eqb (lowestFree t n placed k) n) (free t n placed k) (lowest-most t n placed k (omega arith))
+  where
+    most : (a b : Bool) {x : ℕ} → x ≤ n → pick a (pick b k n) x ≤ n
+    most true true l = omega arith
+    most true false l = omega arith
+    most false b l = l
+
+-- ---- the order, block by block
+
+-- the row holds the blocks so far, and the rest of the order is that of what isn't placed
+pub record Listing (t : List ℕ) (n : ℕ) (row : List ℕ) (count placed : ℕ) : Type 0 where
+  pub list : List ℕ
+  pub holds : Holds list count row
+  pub rest : orderOf t n ≡ list ++ orderFrom t n (n - count) placed
+
+module _ (t : List ℕ) (n : ℕ) where
+  pub listing-none : Listing t n (replicate 64 0) 0 0
+  unfolding orderOf
+  listing-none =
+      record { list = []; holds = holds-none; rest = ap (λ (f : ℕ). orderFrom t n f 0) (omega arith) }
+
+  pub listing-all : {row : List ℕ} {count placed : ℕ} → Listing t n row count placed → n ≤ count → Holds (orderOf t n) count row
+  unfolding orderFrom
+  listing-all {row} {count} {placed} s h =
+      let e : n - count ≡ 0 = omega arith in
+      subst (λ (l : List ℕ). Holds l count row)
+      (sym (s .rest ∙ ap (λ (f : ℕ). s .list ++ orderFrom t n f placed) e ∙ append-nil (s .list))) (s .holds)
+
+  module _ {row : List ℕ} {count placed : ℕ} (s : Listing t n row count placed) (h : count < n) where
+    turn : orderOf t n ≡ s .list ++ orderFrom t n (suc (n - (count + 1))) placed
+    turn = s .rest ∙ ap (λ (f : ℕ). s .list ++ orderFrom t n f placed) (omega arith)
+
+    pub listing-stop : lowestFree t n placed n ≡ n → Holds (orderOf t n) count row
+    unfolding orderFrom
+    listing-stop e =
+        subst (λ (l : List ℕ). Holds l count row)
+        (sym
+        (turn
+        ∙ ap (λ (b : Bool). s .list ++ pick b (x ∷ orderFrom t n (n - (count + 1)) (bitOr placed (blockOf t n x))) []) (le-ltb x n (omega arith))
+        ∙ append-nil (s .list)))
+        (s .holds)
+      where
+        x : ℕ
+        x = lowestFree t n placed n
+
+    pub listing-more : n ≤ 64 → lowestFree t n placed n < n
+        → Listing t n (set row count (lowestFree t n placed n)) (count + 1) (bitOr placed (blockOf t n (lowestFree t n placed n)))
+    unfolding orderFrom
+    listing-more l e =
+        record {
+          list = s .list ++ (x ∷ []);
+          holds = holds-more x (s .holds) (omega arith);
+          rest =
+              turn
+              ∙ ap (λ (b : Bool). s .list ++ pick b (x ∷ orderFrom t n (n - (count + 1)) (bitOr placed (blockOf t n x))) []) (lt-ltb x n e)
+              ∙ sym (append-assoc (s .list) (x ∷ []) (orderFrom t n (n - (count + 1)) (bitOr placed (blockOf t n x))));
+        }
+      where
+        x : ℕ
+        x = lowestFree t n placed n

@@ -140,7 +140,7 @@ fn is_free(row: u64, column: u64, placed: u64, i: usize) -> bool
 // The lowest free place below n, or n where there is none.
 fn lowest_free(reach: &[u64; 64], columns: &[u64; 64], n: usize, placed: u64) -> usize
     requires { ⌜ (n ≤ 64) × ((i : ℕ) → i < n → getD (now columns) i 0 ≡ columnOf (now reach) n i) ⌝ }
-    ensures { λ r. ⌜ r ≡ lowestFree (now (reach .entry)) n placed n ⌝ }
+    ensures { λ r. ⌜ (r ≡ lowestFree (now (reach .entry)) n placed n) × (r ≤ n) ⌝ }
 {
     let mut found = n;
     let mut i: usize = 0;

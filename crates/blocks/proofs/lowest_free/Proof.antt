@@ -5,7 +5,7 @@ use mathlib.Core.Logic.{⊎-elim}
 use native.Mathlib.Omega.{arith}
 use lib.ListN.{getD}
 use Rattle.blocks.specs.Order.{freeIn, free, lowestFree}
-use Rattle.blocks.proofs.Turns.{lowest-kept, lowest-found, lowest-none}
+use Rattle.blocks.proofs.Turns.{lowest-kept, lowest-found, lowest-none, lowest-most}
 use Rattle.blocks.proofs.lowest_free.Statement.{statement}
 use Rattle.blocks.proofs.lowest_free.Tie as tie
 use Rattle.blocks.proofs.lowest_free.Reads as reads
@@ -78,7 +78,8 @@ returns c =
     let a = c .before .before .args in
     let l = c .before .loop in
     let e : l .i ≡ a .n = omega arith in
-    rw e at (l .inv .1)
+    let r = rw e at (l .inv .1) in
+    (r, omega (arith, lowest-most (a .reach .now) (a .n) (a .placed) (a .n) (omega arith)))
 
 pub lowest-free-spec : {M : Type 1} → statement M
 lowest-free-spec =
