@@ -7,3 +7,4 @@ pub mod Blocks
 pub mod Rule4
 pub mod Free
 pub mod OrderOf
+pub mod Settled
