@@ -1,21 +1,23 @@
 -- As long as a place is left, a block is ready. One pass over the places keeps one that isn't placed and that no place passed so far
 -- reaches without being reached by it: of two such the pass takes the one that reaches the other. Assumes nothing.
-use mathlib.Core.Path.{_≡_, refl, sym, subst}
+use mathlib.Core.Path.{_≡_}
 use mathlib.Core.Logic.{_⊎_, inl, inr, ⊎-elim}
 use mathlib.Core.List.{List, [], _∷_, _++_}
 use Prim.Native.Nat.{ℕ, zero, suc, _<_}
 use native.Mathlib.Omega.{arith}
-use native.Mathlib.Nat.{eq-or-lt-of-le, le-of-suc-le-suc}
 use native.Mathlib.Decide.{ℕ-discrete}
 use Rattle.blocks.specs.Links.{Path, link, onward, SameBlock}
 use Rattle.blocks.specs.Rule4.{Placed, here, there, Ready}
-use Rattle.blocks.proofs.Paths.{To, to-trans, both-same, same-to, same-sym, same-trans}
+use Rattle.blocks.proofs.Below.{each}
+use Rattle.blocks.proofs.Paths.{To, to-trans, both-same, same-to, same-sym}
 use Rattle.blocks.proofs.Rule4.{placed-left, placed-last, placed-either}
 
--- what holds of the places below k and of k
-pub each : (P : ℕ → Type 0) (k : ℕ) → ((j : ℕ) → j < k → P j) → P k → (j : ℕ) → j < suc k → P j
-each P k f p j h =
-    ⊎-elim (λ (e : j ≡ k). subst P (sym e) p) (λ (l : j < k). f j l) (eq-or-lt-of-le (le-of-suc-le-suc h))
+-- what feeds the blocks listed is listed
+abbrev pub Fed : (ℕ → ℕ → Type 0) → List ℕ → Type 0
+Fed L done = (a b : ℕ) → L a b → Placed L b done → Placed L a done
+
+pub fed-none : {L : ℕ → ℕ → Type 0} → Fed L []
+fed-none a b l p = elim p [ ]
 
 module _ {L : ℕ → ℕ → Type 0} (path? : (i j : ℕ) → Dec (Path L i j)) where
   to? : (i j : ℕ) → Dec (To L i j)
@@ -116,22 +118,16 @@ module _ {L : ℕ → ℕ → Type 0} (path? : (i j : ℕ) → Dec (Path L i j))
       go (inl all) = absurd (f (all j h))
       go (inr s) = (s .0, ready (s .1))
 
-  -- ---- what feeds the placed blocks is placed
+  -- ---- what feeds the placed blocks stays placed
 
-  abbrev pub Fed : List ℕ → Type 0
-  Fed done = (a b : ℕ) → L a b → Placed L b done → Placed L a done
-
-  pub fed-none : Fed []
-  fed-none a b l p = elim p [ ]
-
-  pub fed-more : {n i : ℕ} {done : List ℕ} → Fed done → Ready L n done i → Fed (done ++ (i ∷ []))
+  pub fed-more : {n i : ℕ} {done : List ℕ} → Fed L done → Ready L n done i → Fed L (done ++ (i ∷ []))
   fed-more {n} {i} {done} c r a b l p = ⊎-elim (λ q. placed-left (i ∷ []) (c a b l q)) new (placed-either done p)
     where
       new : SameBlock L i b → Placed L a (done ++ (i ∷ []))
       new s = elim (same? i a) [ yes x ↦ placed-last done x | no f ↦ placed-left (i ∷ []) (r .fed a b l s f) ]
 
   -- by paths as by links: whoever reaches a ready block is of it or is placed
-  pub fed-path : {n i : ℕ} {done : List ℕ} → Fed done → Ready L n done i → {j k : ℕ} → Path L j k → SameBlock L i k → (SameBlock L i j → ⊥) → Placed L j done
+  pub fed-path : {n i : ℕ} {done : List ℕ} → Fed L done → Ready L n done i → {j k : ℕ} → Path L j k → SameBlock L i k → (SameBlock L i j → ⊥) → Placed L j done
   fed-path c r (link {i = j} {j = k} l) s f = r .fed j k l s f
   fed-path {i = i} c r (onward {i = j} {j = m} l p) s f =
       elim (same? i m) [ yes x ↦ r .fed j m l x f | no g ↦ c j m l (fed-path c r p s g) ]

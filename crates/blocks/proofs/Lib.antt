@@ -1,4 +1,6 @@
+pub mod Below
 pub mod Bits
+pub mod Links
 pub mod Paths
 pub mod Rounds
 pub mod Places

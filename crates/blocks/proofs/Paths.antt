@@ -1,6 +1,6 @@
 -- Paths and blocks over any relation of links. Reach is transitive, being of one block is an equivalence, more links never split a
 -- block; and where one link is added, a path that uses it puts both its ends into the block that the path runs in. Assumes nothing.
-use mathlib.Core.Path.{_≡_, refl, sym, subst}
+use mathlib.Core.Path.{_≡_, refl, sym, ap, subst}
 use mathlib.Core.Logic.{_⊎_, inl, inr, ⊎-elim, _↔_}
 use Prim.Native.Nat.{ℕ}
 use Rattle.blocks.specs.Links.{Path, link, onward, SameBlock}
@@ -10,8 +10,17 @@ pub path-map : {L M : ℕ → ℕ → Type 0} (f : ℕ → ℕ) → ((i j : ℕ)
 path-map f carry (link l) = link (carry _ _ l)
 path-map f carry (onward l p) = onward (carry _ _ l) (path-map f carry p)
 
+pub same-map : {L M : ℕ → ℕ → Type 0} (f : ℕ → ℕ) → ((i j : ℕ) → L i j → M (f i) (f j)) → {i j : ℕ} → SameBlock L i j → SameBlock M (f i) (f j)
+same-map f carry (inl e) = inl (ap f e)
+same-map f carry (inr s) = inr (path-map f carry (s .0), path-map f carry (s .1))
+
+-- more links take no path away
 pub path-more : {L M : ℕ → ℕ → Type 0} → ((i j : ℕ) → L i j → M i j) → {i j : ℕ} → Path L i j → Path M i j
 path-more more p = path-map (λ i. i) more p
+
+-- nor do they split a block
+pub same-more : {L M : ℕ → ℕ → Type 0} → ((i j : ℕ) → L i j → M i j) → {i j : ℕ} → SameBlock L i j → SameBlock M i j
+same-more more s = same-map (λ i. i) more s
 
 -- i is j or reaches it
 abbrev pub To : (ℕ → ℕ → Type 0) → ℕ → ℕ → Type 0
@@ -29,10 +38,6 @@ module _ {L : ℕ → ℕ → Type 0} where
   pub to-trans : {i j k : ℕ} → To L i j → To L j k → To L i k
   to-trans {k = k} (inl e) q = subst (λ (x : ℕ). To L x k) (sym e) q
   to-trans (inr p) q = inr (path-to p q)
-
-  pub to-path : {i j k : ℕ} → To L i j → Path L j k → Path L i k
-  to-path {k = k} (inl e) q = subst (λ (x : ℕ). Path L x k) (sym e) q
-  to-path (inr p) q = path-trans p q
 
   pub both-same : {i j : ℕ} → To L i j → To L j i → SameBlock L i j
   both-same (inl e) q = inl e
@@ -53,11 +58,6 @@ module _ {L : ℕ → ℕ → Type 0} where
   pub same-trans : {i j k : ℕ} → SameBlock L i j → SameBlock L j k → SameBlock L i k
   same-trans r s =
       both-same (to-trans (same-to r) (same-to s)) (to-trans (same-to (same-sym s)) (same-to (same-sym r)))
-
--- more links never split a block
-pub same-more : {L M : ℕ → ℕ → Type 0} → ((i j : ℕ) → L i j → M i j) → {i j : ℕ} → SameBlock L i j → SameBlock M i j
-same-more more (inl e) = inl e
-same-more more (inr s) = inr (path-more more (s .0), path-more more (s .1))
 
 -- M has the links of L, and perhaps one from a to b besides.
 module _ {L M : ℕ → ℕ → Type 0} (a b : ℕ) (more : (i j : ℕ) → L i j → M i j)

@@ -2,19 +2,17 @@
 -- list grows at its end, as the loop that writes it does. Assumes nothing.
 use mathlib.Core.Path.{_≡_, refl, sym, ap, _∙_, subst}
 use mathlib.Core.Logic.{_⊎_, inl, inr, ⊎-elim, _↔_}
-use mathlib.Core.List.{List, [], _∷_, _++_, append-nil, append-assoc, List·Memᴰ, List·Memᴰ·head, List·Memᴰ·tail, List·Memᴰ·not-nil, List·Memᴰ·cases-cons, List·Memᴰ·append-cases, List·Memᴰ·eq-of-singleton, Memᴰ·append-left, Memᴰ·append-right}
+use mathlib.Core.List.{List, [], _∷_, _++_, append-nil, append-assoc, List·Memᴰ, List·Memᴰ·head, List·Memᴰ·tail, List·Memᴰ·not-nil, List·Memᴰ·cases-cons, List·Memᴰ·append-cases, List·Memᴰ·eq-of-singleton, Memᴰ·append-left, Memᴰ·append-right, Memᴰ·cast}
 use Prim.Native.Nat.{ℕ, zero, suc, _+_, _-_, _^_, _<_, _≤_}
 use native.Mathlib.Omega.{arith}
-use native.Mathlib.Numerals.{add-one}
-use native.Mathlib.Nat.{eq-or-lt-of-le, le-of-suc-le-suc}
 use lib.Bits.{bitOr, bitAnd}
-use lib.ListN.{length, getD, set, take, replicate, length-append, length-replicate}
-use lib.Seq.{set-append-seam, take-append-seam, append-snoc}
+use lib.ListN.{length, getD, set, take, replicate, length-append, List·getD-append}
+use lib.Seq.{set-append-seam, take-append-seam}
 use Rattle.blocks.specs.Links.{bit, Link}
-use Rattle.blocks.specs.Reach.{joined}
 use Rattle.blocks.specs.Blocks.{columnOf, blockOf, only, placesOf, Rising, none, first}
 use Rattle.blocks.specs.Answers.{padded, Holds}
-use Rattle.blocks.proofs.Bits.{bit-lt, bit-cases, bit-zero, bit-one, bit-one-same, or-left, or-right, or-either, and-both, and-left, and-right, joined-keeps, joined-adds, joined-either}
+use Rattle.blocks.proofs.Below.{each}
+use Rattle.blocks.proofs.Bits.{bit-lt, bit-cases, bit-zero, bit-one, bit-one-same, bit-or, or-left, or-right, or-either, and-both, and-left, and-right, joined-keeps, joined-adds, joined-either}
 
 -- ---- the places that reach i
 
@@ -22,12 +20,10 @@ pub column-has : (t : List ℕ) (k i j : ℕ) → j < k → Link t j i → bit j
 unfolding columnOf
 column-has t zero i j h e = absurd (omega arith)
 column-has t (suc k) i j h e =
-    ⊎-elim
-    (λ (q : j ≡ k).
-    joined-adds (bit i (getD t k 0)) (columnOf t k i) (2 ^ k) j (subst (λ (x : ℕ). Link t x i) q e)
-    (subst (λ (x : ℕ). bit j (2 ^ x) ≡ 1) q (bit-one-same j)))
-    (λ (l : j < k). joined-keeps (bit i (getD t k 0)) (columnOf t k i) (2 ^ k) j (column-has t k i j l e))
-    (eq-or-lt-of-le (le-of-suc-le-suc h))
+    each (λ (x : ℕ). Link t x i → bit x (columnOf t (suc k) i) ≡ 1) k
+    (λ x l q. joined-keeps (bit i (getD t k 0)) (columnOf t k i) (2 ^ k) x (column-has t k i x l q))
+    (λ q. joined-adds (bit i (getD t k 0)) (columnOf t k i) (2 ^ k) k q (bit-one-same k))
+    j h e
 
 pub column-only : (t : List ℕ) (k i j : ℕ) → bit j (columnOf t k i) ≡ 1 → (j < k) × Link t j i
 unfolding columnOf
@@ -104,12 +100,10 @@ pub places-gain : (k m m′ i : ℕ) → ((j : ℕ) → bit j m ≡ 1 → bit j 
     → length (placesOf k m) < length (placesOf k m′)
 places-gain zero m m′ i f h z o = absurd (omega arith)
 places-gain (suc k) m m′ i f h z o =
-    ⊎-elim
-    (λ (e : i ≡ k).
-    omega
-    (arith, places-length k m, places-length k m′, places-more k m m′ f, subst (λ (x : ℕ). bit x m ≡ 0) e z, subst (λ (x : ℕ). bit x m′ ≡ 1) e o))
-    (λ (l : i < k). grown (places-gain k m m′ i f l z o))
-    (eq-or-lt-of-le (le-of-suc-le-suc h))
+    each (λ (x : ℕ). bit x m ≡ 0 → bit x m′ ≡ 1 → length (placesOf (suc k) m) < length (placesOf (suc k) m′)) k
+    (λ x l q r. grown (places-gain k m m′ x f l q r))
+    (λ q r. omega (arith, places-length k m, places-length k m′, places-more k m m′ f))
+    i h z o
   where
     grown : length (placesOf k m) < length (placesOf k m′) → length (placesOf (suc k) m) < length (placesOf (suc k) m′)
     grown r =
@@ -124,28 +118,41 @@ places-full zero m h j l = absurd (omega arith)
 places-full (suc k) m h j l =
     let b = places-most k m in
     let o : bit k m ≡ 1 = omega (arith, places-length k m, bit-lt k m) in
-    ⊎-elim
-    (λ (e : j ≡ k). subst (λ (x : ℕ). bit x m ≡ 1) (sym e) o)
-    (λ (q : j < k). places-full k m (omega (arith, places-length k m)) j q)
-    (eq-or-lt-of-le (le-of-suc-le-suc l))
+    each (λ (x : ℕ). bit x m ≡ 1) k (places-full k m (omega (arith, places-length k m))) o j l
 
--- sets with the same places below k have the same list
-pub places-same : (k a b : ℕ) → ((j : ℕ) → j < k → bit j a ≡ bit j b) → placesOf k a ≡ placesOf k b
+-- and a set that holds each has as many
+pub places-all : (k m : ℕ) → ((j : ℕ) → j < k → bit j m ≡ 1) → length (placesOf k m) ≡ k
 unfolding placesOf
-places-same zero a b f = refl
-places-same (suc k) a b f = rw (f k (omega arith), places-same k a b (λ j h. f j (omega arith)))
+places-all zero m f = refl
+places-all (suc k) m f = omega (arith, places-length k m, f k (omega arith), places-all k m (λ j h. f j (omega arith)))
+
+pub places-zero : (k : ℕ) → length (placesOf k 0) ≡ 0
+unfolding placesOf
+places-zero zero = refl
+places-zero (suc k) = omega (arith, places-length k 0, bit-zero k, places-zero k)
+
+-- two sets with no place in common have together as many places as both
+pub places-join : (k a b : ℕ) → ((j : ℕ) → j < k → bit j a ≡ 1 → bit j b ≡ 1 → ⊥)
+    → length (placesOf k (bitOr a b)) ≡ length (placesOf k a) + length (placesOf k b)
+unfolding placesOf
+places-join zero a b f = refl
+places-join (suc k) a b f =
+    let r = places-join k a b (λ j h. f j (omega arith)) in
+    let both : bit k (bitOr a b) ≡ bit k a + bit k b =
+    ⊎-elim
+    (λ (z : bit k a ≡ 0). omega (arith, bit-or k a b))
+    (λ (o : bit k a ≡ 1). omega (arith, bit-or k a b, bit-lt k b, f k (omega arith) o))
+    (bit-cases k a) in
+    omega (arith, places-length k (bitOr a b), places-length k a, places-length k b)
 
 pub places-has : (k m j : ℕ) → j < k → bit j m ≡ 1 → List·Memᴰ j (placesOf k m)
 unfolding placesOf
 places-has zero m j h e = absurd (omega arith)
 places-has (suc k) m j h e =
-    ⊎-elim
-    (λ (q : j ≡ k). rw (places-one k m (subst (λ (x : ℕ). bit x m ≡ 1) q e)) (Memᴰ·append-right (placesOf k m) (List·Memᴰ·head q)))
-    (λ (l : j < k). kept (places-has k m j l e))
-    (eq-or-lt-of-le (le-of-suc-le-suc h))
-  where
-    kept : List·Memᴰ j (placesOf k m) → List·Memᴰ j (placesOf (suc k) m)
-    kept p = Memᴰ·append-left (only (bit k m) k) p
+    each (λ (x : ℕ). bit x m ≡ 1 → List·Memᴰ x (placesOf (suc k) m)) k
+    (λ x l q. Memᴰ·append-left (only (bit k m) k) (places-has k m x l q))
+    (λ q. rw (places-one k m q) (Memᴰ·append-right (placesOf k m) (List·Memᴰ·head refl)))
+    j h e
 
 only-is : (b k j : ℕ) → List·Memᴰ j (only b k) → (j ≡ k) × (0 < b)
 only-is zero k j p = absurd (List·Memᴰ·not-nil p)
@@ -193,7 +200,10 @@ rising-unique none (first {k = y} above r) f g = absurd (List·Memᴰ·not-nil (
 rising-unique (first {k = x} above r) none f g = absurd (List·Memᴰ·not-nil (f x (List·Memᴰ·head refl)))
 rising-unique (first {k = x} {l = l} a r) (first {k = y} {l = p} b s) f g =
     let e : x ≡ y = heads (List·Memᴰ·cases-cons (f x (List·Memᴰ·head refl))) (List·Memᴰ·cases-cons (g y (List·Memᴰ·head refl))) in
-    let q = rising-unique r s (λ j m. beyond e (a j m) (List·Memᴰ·cases-cons (f j (List·Memᴰ·tail m)))) (λ j m. beyond (sym e) (b j m) (List·Memᴰ·cases-cons (g j (List·Memᴰ·tail m)))) in
+    let q =
+    rising-unique r s
+    (λ j m. beyond e (a j m) (List·Memᴰ·cases-cons (f j (List·Memᴰ·tail m))))
+    (λ j m. beyond (sym e) (b j m) (List·Memᴰ·cases-cons (g j (List·Memᴰ·tail m)))) in
     cc
   where
     heads : (x ≡ y) ⊎ List·Memᴰ x p → (y ≡ x) ⊎ List·Memᴰ y l → x ≡ y
@@ -225,3 +235,17 @@ holds-more {l} {row} {count} k s h =
 pub holds-front : {l row : List ℕ} {count : ℕ} → Holds l count row → take count row ≡ l
 unfolding padded
 holds-front {l} s = rw (s .places, s .many) (take-append-seam l (replicate (64 - length l) 0))
+
+pub holds-at : {l row : List ℕ} {count : ℕ} → Holds l count row → (k : ℕ) → k < count → getD row k 0 ≡ getD l k 0
+unfolding padded
+holds-at {l} s k h =
+    ap (λ (x : List ℕ). getD x k 0) (s .places) ∙ List·getD-append l (replicate (64 - length l) 0) 0 k (omega (arith, s .many))
+
+mem-at : (l : List ℕ) (k : ℕ) → k < length l → List·Memᴰ (getD l k 0) l
+mem-at [] k h = absurd (omega arith)
+mem-at (x ∷ l) zero h = List·Memᴰ·head refl
+mem-at (x ∷ l) (suc k) h = List·Memᴰ·tail (mem-at l k (omega arith))
+
+-- each place of the row's front is one of the list
+pub holds-mem : {l row : List ℕ} {count : ℕ} → Holds l count row → (k : ℕ) → k < count → List·Memᴰ (getD row k 0) l
+holds-mem {l} s k h = Memᴰ·cast (holds-at s k h) (mem-at l k (omega (arith, s .many)))

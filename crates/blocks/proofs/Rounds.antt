@@ -1,15 +1,15 @@
 -- The table of reach is exact. What a round sets is a path over the links, since it joins two; and after round k whoever reaches k
 -- reaches what k reaches, which later rounds keep, so after all rounds a link and then a path is a path. Assumes nothing.
-use mathlib.Core.Path.{_≡_, refl, sym, ap, _∙_, subst}
+use mathlib.Core.Path.{_≡_, refl, sym, ap, _∙_}
 use mathlib.Core.Logic.{_⊎_, inl, inr, ⊎-elim, _↔_}
 use mathlib.Core.List.{List, [], _∷_, map}
 use Prim.Native.Nat.{ℕ, zero, suc, _<_, _≤_}
 use native.Mathlib.Omega.{arith}
-use native.Mathlib.Nat.{eq-or-lt-of-le, le-of-suc-le-suc}
 use native.Mathlib.Decide.{decLt}
 use lib.ListN.{length, getD, List·getD-eq-default}
 use Rattle.blocks.specs.Links.{bit, Link, Path, link, onward}
 use Rattle.blocks.specs.Reach.{joined, roundOf, roundsOf, reachOf}
+use Rattle.blocks.proofs.Below.{each}
 use Rattle.blocks.proofs.Bits.{bit-lt, bit-cases, bit-zero, joined-keeps, joined-adds, joined-either}
 use Rattle.blocks.proofs.Paths.{path-trans}
 
@@ -89,20 +89,19 @@ rounds-closed : (k : ℕ) (t : List ℕ) (m : ℕ) → m < k → Closed (roundsO
 unfolding roundsOf
 rounds-closed zero t m h = absurd (omega arith)
 rounds-closed (suc k) t m h =
-    ⊎-elim
-    (λ (e : m ≡ k). subst (λ (x : ℕ). Closed (roundOf k (roundsOf k t)) x) (sym e) (closed-round k (roundsOf k t)))
-    (λ (l : m < k). closed-still k (roundsOf k t) m (rounds-closed k t m l))
-    (eq-or-lt-of-le (le-of-suc-le-suc h))
+    each (Closed (roundOf k (roundsOf k t))) k (λ x l. closed-still k (roundsOf k t) x (rounds-closed k t x l))
+    (closed-round k (roundsOf k t)) m h
 
 -- a place that a link leaves is one of the table's rows
 pub link-source : (t : List ℕ) (i j : ℕ) → Link t i j → i < length t
 link-source t i j h =
-    elim (decLt i (length t))
-    [ yes l ↦ l
-    | no f ↦
-        absurd
-        (omega
-        (arith, ap (bit j) (List·getD-eq-default t 0 {n = i} (omega arith)), bit-zero j)) ]
+    elim (decLt i (length t)) [
+      | yes l ↦ l
+      | no f ↦
+          absurd
+          (omega
+          (arith, ap (bit j) (List·getD-eq-default t 0 {n = i} (omega arith)), bit-zero j))
+    ]
 
 path-source : (t : List ℕ) {i j : ℕ} → Path (Link t) i j → i < length t
 path-source t (link {i = i} {j = j} h) = link-source t i j h

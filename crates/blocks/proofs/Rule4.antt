@@ -3,11 +3,11 @@
 use mathlib.Core.Path.{_≡_, refl, sym, ap, ap₂, subst}
 use mathlib.Core.Logic.{_⊎_, inl, inr, ⊎-elim}
 use mathlib.Core.List.{List, [], _∷_, _++_, append-nil, append-assoc}
-use Prim.Native.Nat.{ℕ, _<_, _≤_}
+use Prim.Native.Nat.{ℕ, _<_}
 use native.Mathlib.Omega.{arith}
-use Rattle.blocks.specs.Links.{Path, SameBlock}
+use Rattle.blocks.specs.Links.{SameBlock}
 use Rattle.blocks.specs.Rule4.{Placed, here, there, Ready, Next, Follows, end, next, Rule4, Once, Before}
-use Rattle.blocks.proofs.Paths.{same-refl, same-sym, same-trans}
+use Rattle.blocks.proofs.Paths.{same-sym, same-trans}
 
 module _ {L : ℕ → ℕ → Type 0} where
   pub placed-same : {i j : ℕ} {o : List ℕ} → SameBlock L i j → Placed L i o → Placed L j o

@@ -1,9 +1,9 @@
 -- The block of a place, computed from a table t of reach: rule 1. "Two units share a block when they are the same unit or each
 -- reaches the other."
 use mathlib.Core.List.{List, [], _∷_, _++_, List·Memᴰ}
-use Prim.Native.Nat.{ℕ, zero, suc, _^_, _<_}
+use Prim.Native.Nat.{ℕ, zero, suc, _+_, _^_, _<_}
 use lib.Bits.{bitOr, bitAnd}
-use lib.ListN.{getD}
+use lib.ListN.{length, getD}
 use Rattle.blocks.specs.Links.{bit}
 use Rattle.blocks.specs.Reach.{joined}
 
@@ -32,6 +32,11 @@ placesOf (suc k) m = placesOf k m ++ only (bit k m) k
 -- The places below n of i's block, rising.
 unfoldable pub membersOf : List ℕ → ℕ → ℕ → List ℕ
 membersOf t n i = placesOf n (blockOf t n i)
+
+-- How many places the blocks of the places listed in o have together.
+abbrev pub countsOf : List ℕ → ℕ → List ℕ → ℕ
+countsOf t n [] = 0
+countsOf t n (i ∷ o) = length (membersOf t n i) + countsOf t n o
 
 -- A list of places that rises.
 pub data Rising : List ℕ → Type 0 where

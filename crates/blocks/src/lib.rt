@@ -108,7 +108,10 @@ pub fn members(reach: &[u64; 64], n: usize, place: usize) -> Block
         }
         j += 1;
     }
-    Block { count: count, places: places }
+    Block {
+        count: count,
+        places: places,
+    }
 }
 
 // For each place below n the set of the places below n that reach it.
@@ -168,11 +171,17 @@ pub fn order(reach: &[u64; 64], n: usize) -> BlockOrder
     while count < n {
         let i = lowest_free(reach, &columns, n, placed);
         if i == n {
-            return BlockOrder { count: count, first: first };
+            return BlockOrder {
+                count: count,
+                first: first,
+            };
         }
         first[count] = i as u8;
         count += 1;
         placed = placed | block_set(reach[i], columns[i], i);
     }
-    BlockOrder { count: count, first: first }
+    BlockOrder {
+        count: count,
+        first: first,
+    }
 }

@@ -1,5 +1,6 @@
-use Prim.Native.Nat.{ℕ, _+_, _-_, _≤_, _<_}
-use mathlib.Core.Path.{_≡_, refl, sym, _∙_}
+-- `blocks::columns` meets its contract. The loop's invariant: each set below `i` is its place's column. Assumes nothing.
+use Prim.Native.Nat.{ℕ, _-_, _≤_, _<_}
+use mathlib.Core.Path.{_≡_, refl, _∙_}
 use mathlib.Core.List.{List}
 use native.Mathlib.Omega.{arith}
 use borrow.Author.Count.{below-more}
@@ -8,9 +9,6 @@ use lib.Seq.{getD-set-same, getD-set-other}
 use Rattle.blocks.specs.Blocks.{columnOf}
 use Rattle.blocks.proofs.columns.Statement.{statement}
 use Rattle.blocks.proofs.columns.Tie as tie
-use Rattle.blocks.proofs.columns.Reads as reads
-use Rattle.blocks.proofs.columns.Lts as lts
-use Rattle.blocks.proofs.column.Reads as column-reads
 
 abbrev Inv-loop : tie.InvT-loop
 Inv-loop reach n sets₀ i₀ sets i =
@@ -19,31 +17,24 @@ Inv-loop reach n sets₀ i₀ sets i =
 abbrev μ-loop : tie.MeasureT-loop
 μ-loop reach n sets₀ i₀ sets i = n - i
 
--- src/lib.rt:121:5
 loop-holds : tie.Need-loop-holds Inv-loop μ-loop
 loop-holds c = (omega arith, refl, λ j h. absurd (omega arith))
 
--- src/lib.rt:122:19
 column-requires : tie.Need-column-requires Inv-loop μ-loop
 column-requires c κs = omega arith
 
--- src/lib.rt:122:9
 mul-sets : tie.Need-mul-sets Inv-loop μ-loop
 mul-sets c = omega arith
 
--- src/lib.rt:122:9
 array-write-sets : tie.Need-array-write-sets Inv-loop μ-loop
 array-write-sets c = omega arith
 
--- src/lib.rt:123:9
 add-i : tie.Need-add-i Inv-loop μ-loop
 add-i c = omega arith
 
--- src/lib.rt:121:5
 loop-less : tie.Need-loop-less Inv-loop μ-loop
 loop-less c = omega arith
 
--- src/lib.rt:121:5
 loop-again : tie.Need-loop-again Inv-loop μ-loop
 loop-again c =
     let a = c .before .before .before .args in
@@ -56,7 +47,6 @@ loop-again c =
           (getD-set-same (l .sets) (l .i) (c .column .result) 0 (omega arith) ∙ c .column .ensures),
     )
 
--- src/lib.rt:115:1
 returns : tie.Need-returns Inv-loop μ-loop
 returns c i h = c .before .loop .inv .2 i (omega arith)
 

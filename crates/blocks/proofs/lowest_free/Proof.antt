@@ -1,4 +1,5 @@
-use Prim.Native.Nat.{ℕ, _+_, _-_, _≤_, _<_}
+-- `blocks::lowest_free` meets its contract. The loop's invariant: `found` is the lowest free place below `i`, or n where there is none. Assumes nothing.
+use Prim.Native.Nat.{ℕ, _-_, _≤_}
 use mathlib.Core.Path.{_≡_, refl, sym, ap, _∙_}
 use mathlib.Core.Bool.{Bool, true, false}
 use mathlib.Core.Logic.{⊎-elim}
@@ -8,9 +9,6 @@ use Rattle.blocks.specs.Order.{freeIn, free, lowestFree}
 use Rattle.blocks.proofs.Turns.{lowest-kept, lowest-found, lowest-none, lowest-most}
 use Rattle.blocks.proofs.lowest_free.Statement.{statement}
 use Rattle.blocks.proofs.lowest_free.Tie as tie
-use Rattle.blocks.proofs.lowest_free.Reads as reads
-use Rattle.blocks.proofs.lowest_free.Lts as lts
-use Rattle.blocks.proofs.is_free.Reads as is-free-reads
 
 abbrev Inv-loop : tie.InvT-loop
 Inv-loop reach columns n placed found₀ i₀ found i = (i ≤ n) × (found ≡ lowestFree reach n placed i)
@@ -18,40 +16,31 @@ Inv-loop reach columns n placed found₀ i₀ found i = (i ≤ n) × (found ≡ 
 abbrev μ-loop : tie.MeasureT-loop
 μ-loop reach columns n placed found₀ i₀ found i = n - i
 
--- src/lib.rt:147:5
 loop-holds : tie.Need-loop-holds Inv-loop μ-loop
 unfolding lowestFree
 loop-holds c = (omega arith, refl)
 
--- src/lib.rt:149:24
 mul-is-free : tie.Need-mul-is-free Inv-loop μ-loop
 mul-is-free c = omega arith
 
--- src/lib.rt:149:24
 element-copy-out-is-free : tie.Need-element-copy-out-is-free Inv-loop μ-loop
 element-copy-out-is-free c = omega arith
 
--- src/lib.rt:149:34
 mul-is-free-2 : tie.Need-mul-is-free-2 Inv-loop μ-loop
 mul-is-free-2 c = omega arith
 
--- src/lib.rt:149:34
 element-copy-out-is-free-2 : tie.Need-element-copy-out-is-free-2 Inv-loop μ-loop
 element-copy-out-is-free-2 c = omega arith
 
--- src/lib.rt:149:16
 is-free-requires : tie.Need-is-free-requires Inv-loop μ-loop
 is-free-requires c κs = omega arith
 
--- src/lib.rt:153:9
 add-i : tie.Need-add-i Inv-loop μ-loop
 add-i c = omega arith
 
--- src/lib.rt:147:5
 loop-less : tie.Need-loop-less Inv-loop μ-loop
 loop-less c = omega arith
 
--- src/lib.rt:147:5
 loop-again : tie.Need-loop-again Inv-loop μ-loop
 loop-again c =
     let st = c .before .before .before in
@@ -72,7 +61,6 @@ loop-again c =
           (c .if1 .came),
     )
 
--- src/lib.rt:141:1
 returns : tie.Need-returns Inv-loop μ-loop
 returns c =
     let a = c .before .before .args in

@@ -1,21 +1,15 @@
-use Prim.Native.Nat.{ℕ, suc, _+_, _-_, _≤_, _<_}
-use mathlib.Core.Path.{_≡_, refl, sym, ap, _∙_, subst}
-use mathlib.Core.List.{List}
+-- `blocks::members` meets its contract. The loop's invariant: the row holds the block's places below `j`. Assumes nothing.
+use Prim.Native.Nat.{ℕ, _-_, _≤_, _<_}
+use mathlib.Core.Path.{_≡_, sym, ap, _∙_}
 use mathlib.Core.Logic.{⊎-elim}
 use native.Mathlib.Omega.{arith}
 use native.Mathlib.Numerals.{add-one}
-use lib.ListN.{length, getD}
-use Rattle.blocks.specs.Links.{bit}
+use lib.ListN.{getD}
 use Rattle.blocks.specs.Blocks.{blockOf, blockIn, placesOf, membersOf}
 use Rattle.blocks.specs.Answers.{Holds}
 use Rattle.blocks.proofs.Places.{places-one, places-skip, places-most, holds-none, holds-more}
 use Rattle.blocks.proofs.members.Statement.{statement}
 use Rattle.blocks.proofs.members.Tie as tie
-use Rattle.blocks.proofs.members.Reads as reads
-use Rattle.blocks.proofs.members.Lts as lts
-use Rattle.blocks.proofs.block_set.Reads as block-set-reads
-use Rattle.blocks.proofs.column.Reads as column-reads
-use Rattle.blocks.proofs.has.Reads as has-reads
 
 abbrev Inv-loop : tie.InvT-loop
 Inv-loop reach n place set places₀ count₀ j₀ places count j =
@@ -30,54 +24,42 @@ room c =
     let l = c .before .before .loop in
     omega (arith, places-most (l .j) (c .before .before .before .block-set .result), l .inv .2 .many)
 
--- src/lib.rt:100:25
 mul-block-set : tie.Need-mul-block-set Inv-loop μ-loop
 mul-block-set c = omega arith
 
--- src/lib.rt:100:25
 element-copy-out-block-set : tie.Need-element-copy-out-block-set Inv-loop μ-loop
 element-copy-out-block-set c = omega arith
 
--- src/lib.rt:100:39
 column-requires : tie.Need-column-requires Inv-loop μ-loop
 column-requires c κs = omega arith
 
--- src/lib.rt:100:9
 block-set-requires : tie.Need-block-set-requires Inv-loop μ-loop
 block-set-requires c κs = omega arith
 
--- src/lib.rt:104:5
 loop-holds : tie.Need-loop-holds Inv-loop μ-loop
 unfolding placesOf
 loop-holds c =
     let a = c .before .before .before .args in
     (omega arith, c .block-set .ensures ∙ ap (λ (x : ℕ). blockIn (getD (a .reach .now) (a .place) 0) x (a .place)) (c .before .column .ensures), holds-none)
 
--- src/lib.rt:105:12
 has-requires : tie.Need-has-requires Inv-loop μ-loop
 has-requires c κs = omega arith
 
--- src/lib.rt:106:29
 cast-places : tie.Need-cast-places Inv-loop μ-loop
 cast-places c = omega arith
 
--- src/lib.rt:106:13
 array-write-places : tie.Need-array-write-places Inv-loop μ-loop
 array-write-places c = room (c .before)
 
--- src/lib.rt:107:13
 add-count : tie.Need-add-count Inv-loop μ-loop
 add-count c = omega (arith, room (c .before))
 
--- src/lib.rt:109:9
 add-j : tie.Need-add-j Inv-loop μ-loop
 add-j c = omega arith
 
--- src/lib.rt:104:5
 loop-less : tie.Need-loop-less Inv-loop μ-loop
 loop-less c = omega arith
 
--- src/lib.rt:104:5
 loop-again : tie.Need-loop-again Inv-loop μ-loop
 loop-again c =
     let l = c .before .before .before .loop in
@@ -92,7 +74,6 @@ loop-again c =
           (c .if1 .came),
     )
 
--- src/lib.rt:96:1
 returns : tie.Need-returns Inv-loop μ-loop
 unfolding membersOf
 returns c =

@@ -1,16 +1,12 @@
-use Prim.Native.Nat.{ℕ, _+_, _-_, _≤_, _<_}
-use mathlib.Core.Path.{_≡_, refl, sym, ap, _∙_, subst}
+-- `blocks::order` meets its contract. The loop's invariant: the row holds the blocks so far, and the rest of the order is that of what isn't placed. Assumes nothing.
+use Prim.Native.Nat.{ℕ, _-_, _≤_, _<_}
+use mathlib.Core.Path.{_≡_, sym, ap, _∙_}
 use native.Mathlib.Omega.{arith}
 use lib.ListN.{getD}
 use Rattle.blocks.specs.Blocks.{blockIn, blockOf}
 use Rattle.blocks.proofs.Turns.{Listing, listing-none, listing-stop, listing-more, listing-all}
 use Rattle.blocks.proofs.order.Statement.{statement}
 use Rattle.blocks.proofs.order.Tie as tie
-use Rattle.blocks.proofs.order.Reads as reads
-use Rattle.blocks.proofs.order.Lts as lts
-use Rattle.blocks.proofs.block_set.Reads as block-set-reads
-use Rattle.blocks.proofs.columns.Reads as columns-reads
-use Rattle.blocks.proofs.lowest_free.Reads as lowest-free-reads
 
 abbrev Inv-loop : tie.InvT-loop
 Inv-loop reach n columns first₀ count₀ placed₀ first count placed = (count ≤ n) × Listing reach n first count placed
@@ -18,62 +14,48 @@ Inv-loop reach n columns first₀ count₀ placed₀ first count placed = (count
 abbrev μ-loop : tie.MeasureT-loop
 μ-loop reach n columns first₀ count₀ placed₀ first count placed = n - count
 
--- src/lib.rt:164:19
 columns-requires : tie.Need-columns-requires Inv-loop μ-loop
 columns-requires c κs = omega arith
 
--- src/lib.rt:168:5
 loop-holds : tie.Need-loop-holds Inv-loop μ-loop
 loop-holds c = (omega arith, listing-none (c .before .args .reach .now) (c .before .args .n))
 
--- src/lib.rt:169:13
 lowest-free-requires : tie.Need-lowest-free-requires Inv-loop μ-loop
 lowest-free-requires c κs = (omega arith, c .before .before .before .columns .ensures)
 
--- src/lib.rt:171:13
 returns : tie.Need-returns Inv-loop μ-loop
 returns c =
     let a = c .before .before .before .before .before .before .args in
     let l = c .before .before .before .before .loop in
     listing-stop (a .reach .now) (a .n) (l .inv .1) (omega arith) (sym (c .before .lowest-free .ensures .0) ∙ c .if1 .taken)
 
--- src/lib.rt:173:24
 cast-first : tie.Need-cast-first Inv-loop μ-loop
 cast-first c = omega arith
 
--- src/lib.rt:173:9
 array-write-first : tie.Need-array-write-first Inv-loop μ-loop
 array-write-first c = omega arith
 
--- src/lib.rt:174:9
 add-count : tie.Need-add-count Inv-loop μ-loop
 add-count c = omega arith
 
--- src/lib.rt:175:37
 mul-block-set : tie.Need-mul-block-set Inv-loop μ-loop
 mul-block-set c = omega arith
 
--- src/lib.rt:175:37
 element-copy-out-block-set : tie.Need-element-copy-out-block-set Inv-loop μ-loop
 element-copy-out-block-set c = omega arith
 
--- src/lib.rt:175:47
 mul-block-set-2 : tie.Need-mul-block-set-2 Inv-loop μ-loop
 mul-block-set-2 c = omega arith
 
--- src/lib.rt:175:47
 array-read-block-set : tie.Need-array-read-block-set Inv-loop μ-loop
 array-read-block-set c = omega arith
 
--- src/lib.rt:175:27
 block-set-requires : tie.Need-block-set-requires Inv-loop μ-loop
 block-set-requires c κs = omega arith
 
--- src/lib.rt:168:5
 loop-less : tie.Need-loop-less Inv-loop μ-loop
 loop-less c = omega arith
 
--- src/lib.rt:168:5
 loop-again : tie.Need-loop-again Inv-loop μ-loop
 loop-again c =
     let a = c .before .before .before .before .before .before .before .before .args in
@@ -86,7 +68,6 @@ loop-again c =
     c .block-set .ensures ∙ ap (λ (x : ℕ). blockIn (getD t (found .result) 0) x (found .result)) column in
     (omega arith, rw (block, found .ensures .0) (listing-more t (a .n) (l .inv .1) (omega arith) (omega arith) (omega (arith, found .ensures .0))))
 
--- src/lib.rt:160:1
 returns-2 : tie.Need-returns-2 Inv-loop μ-loop
 returns-2 c =
     let a = c .before .before .before .args in
