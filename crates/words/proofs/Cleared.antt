@@ -1,11 +1,11 @@
 -- The front of a row cleared, a byte at a time; what lies beyond it is all that counts of the row before. Assumes nothing.
-use mathlib.Core.Path.{_≡_, refl, sym, ap, _∙_}
-use mathlib.Core.List.{List, [], _∷_, _++_, append-assoc}
+use mathlib.Core.List.{List, _++_}
+use mathlib.Core.Path.{_≡_, sym, ap, _∙_}
 use Prim.Native.Nat.{ℕ, _+_, _-_, _≤_, _<_}
 use native.Mathlib.Omega.{arith}
 use borrow.Author.Fill.{fill-none, fill-more}
-use lib.ListN.{length, getD, set, drop, replicate, length-append, length-replicate, length-drop, getD-replicate, List·getD-append}
-use lib.Seq.{getD-append-add, getD-drop, drop-append-add, drop-drop}
+use lib.ListN.{length, set, drop, replicate, length-append, length-replicate, length-drop}
+use lib.Seq.{drop-append-add, drop-drop}
 use Rattle.words.specs.Words.{cleared}
 
 pub cleared-none : (l : List ℕ) → l ≡ cleared l 0

@@ -1,15 +1,15 @@
 -- Little-endian numbers, once for every width. A number of a + b bytes is the number of its first a bytes and, 256 ^ a
 -- times, that of the others; so the wider functions follow from the narrower. Assumes nothing.
-use mathlib.Core.Path.{_≡_, refl, sym, ap, _∙_, subst}
-use mathlib.Core.Logic.{_⊎_, inl, inr, ⊎-elim, _≢_}
 use mathlib.Core.List.{List, [], _∷_, _++_, append-assoc}
+use mathlib.Core.Logic.{_⊎_, inl, inr}
+use mathlib.Core.Path.{_≡_, refl, sym, ap, _∙_}
 use Prim.Native.Nat.{ℕ, zero, suc, _+_, _*_, _/_, _%_, _^_, _≤_, _<_}
-use native.Mathlib.Omega.{arith}
-use native.Mathlib.Numerals.{add-one}
 use native.Mathlib.Nat.{zero-add, suc-add, add-zero, mul-assoc, pow-suc, pow-succ', div-one, div-div-eq-div-mul}
+use native.Mathlib.Numerals.{add-one}
+use native.Mathlib.Omega.{arith}
 use lib.Arith.{mod-mul, digits-div, digits-mod}
 use lib.ListN.{length, getD, set, take, drop, length-set, length-append}
-use lib.Seq.{sets, length-sets, sets-eq, getD-set-same, getD-set-other, drop-set-lt, drop-cons, getD-append-seam}
+use lib.Seq.{sets, length-sets, getD-set-same, getD-set-other, drop-set-lt, drop-cons, getD-append-seam}
 use Rattle.words.specs.Words.{numberAt, bytesOf, withNumber}
 
 -- every element of the row is a byte

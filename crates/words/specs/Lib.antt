@@ -1,2 +1,3 @@
--- The definitions that the contracts of `words` cite.
+-- The definitions that the contracts of `words` and of the crates above it cite.
 pub mod Words
+pub mod Rows

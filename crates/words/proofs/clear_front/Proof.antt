@@ -1,11 +1,11 @@
 -- `words::clear_front` meets its contract. The loop has cleared the first i bytes. The measure is what is left to clear. Assumes nothing.
-use lib.ListN.{length, set}
 use mathlib.Core.List.{List}
 use mathlib.Core.Path.{_≡_, ap, _∙_}
 use Prim.Native.Nat.{ℕ, _-_, _≤_}
+use native.Mathlib.Omega.{arith}
+use lib.ListN.{length, set}
 use Rattle.words.specs.Words.{cleared}
 use Rattle.words.proofs.Cleared.{cleared-none, cleared-more, length-cleared}
-use native.Mathlib.Omega.{arith}
 use Rattle.words.proofs.clear_front.Statement.{statement}
 use Rattle.words.proofs.clear_front.Tie as tie
 

@@ -1,9 +1,9 @@
 -- `words::put_u16` meets its contract. The two stores are the bytes of the number, one after the other. Assumes nothing.
-use Rattle.words.specs.Words.{withNumber, bytesOf}
 use native.Mathlib.Numerals.{add-one}
-use lib.ListN.{length-set}
 use native.Mathlib.Omega.{arith}
 use borrow.Author.Needs.{needs}
+use lib.ListN.{length-set}
+use Rattle.words.specs.Words.{withNumber, bytesOf}
 use Rattle.words.proofs.put_u16.Statement.{statement}
 use Rattle.words.proofs.put_u16.Tie as tie
 

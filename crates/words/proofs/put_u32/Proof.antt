@@ -1,10 +1,10 @@
 -- `words::put_u32` meets its contract. Two halves written one after the other are the whole number, by `with-join`. Assumes nothing.
-use mathlib.Core.Path.{ap, _∙_}
 use mathlib.Core.List.{List}
+use mathlib.Core.Path.{ap, _∙_}
 use Prim.Native.Nat.{ℕ, _+_, _/_, _%_, _^_}
+use borrow.Author.Needs.{needs}
 use Rattle.words.specs.Words.{withNumber}
 use Rattle.words.proofs.Numbers.{with-join}
-use borrow.Author.Needs.{needs}
 use Rattle.words.proofs.put_u32.Statement.{statement}
 use Rattle.words.proofs.put_u32.Tie as tie
 

@@ -1,7 +1,7 @@
 -- `words::u16_at` meets its contract. The number of two bytes is their sum as `numberAt` writes it. Assumes nothing.
-use Rattle.words.specs.Words.{numberAt}
 use native.Mathlib.Omega.{arith}
 use borrow.Author.Needs.{needs}
+use Rattle.words.specs.Words.{numberAt}
 use Rattle.words.proofs.u16_at.Statement.{statement}
 use Rattle.words.proofs.u16_at.Tie as tie
 

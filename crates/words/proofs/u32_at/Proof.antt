@@ -1,7 +1,7 @@
 -- `words::u32_at` meets its contract. A number of four bytes is that of its two halves, by `number-join`. Assumes nothing.
-use Rattle.words.proofs.Numbers.{number-join}
 use native.Mathlib.Omega.{arith}
 use borrow.Author.Needs.{needs}
+use Rattle.words.proofs.Numbers.{number-join}
 use Rattle.words.proofs.u32_at.Statement.{statement}
 use Rattle.words.proofs.u32_at.Tie as tie
 

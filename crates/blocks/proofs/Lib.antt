@@ -1,0 +1,12 @@
+pub mod Below
+pub mod Bits
+pub mod Links
+pub mod Paths
+pub mod Rounds
+pub mod Places
+pub mod Turns
+pub mod Blocks
+pub mod Rule4
+pub mod Free
+pub mod OrderOf
+pub mod Settled

@@ -1,0 +1,63 @@
+-- The flowsheet of an accepted image is good, and a good flowsheet's numbers rise from any place to any later one. Assumes nothing.
+use mathlib.Core.List.{List}
+use mathlib.Core.Logic.{⊎-elim}
+use mathlib.Core.Path.{_≡_, refl, sym, ap, _∙_}
+use Prim.Native.Nat.{ℕ, zero, suc, _<_}
+use native.Mathlib.Nat.{eq-or-lt-of-le, le-of-suc-le-suc}
+use native.Mathlib.Omega.{arith}
+use lib.ListN.{getD}
+use Rattle.words.specs.Rows.{table}
+use Rattle.words.proofs.Rows.{length-table, getD-table}
+use Rattle.flowsheet.specs.Exactly.{Numbered, Accepted, streamIn, streamNumberIn}
+use Rattle.flowsheet.specs.Good.{Good}
+use Rattle.flowsheet.specs.Image.{unitCount, streamCount, unitAt, unitList, streamList, answerOf, readingOf}
+use Rattle.flowsheet.specs.Sheet.{noStream, sheetOf}
+use Rattle.flowsheet.specs.declared.Reading.{Reading}
+use Rattle.flowsheet.specs.declared.Stream.{Stream}
+use Rattle.flowsheet.proofs.Exact.{is-accepted}
+use Rattle.flowsheet.proofs.Records.{reading-number, reading-accepted}
+
+-- numbers that are in range and rising, given at each place below n by a function that agrees
+numbered-same : (f g : ℕ → ℕ) (n i : ℕ) → ((j : ℕ) → j < n → g j ≡ f j) → i < n → Numbered f i → Numbered g i
+numbered-same f g n i same h a =
+    let e = same i h in
+    record {
+      low = omega (arith, e, a .low);
+      high = omega (arith, e, a .high);
+      rising = λ j p. omega (arith, e, same j (omega arith), a .rising j p);
+    }
+
+-- strictly rising from each place to the next, so from each to any later one
+pub rising : (f : ℕ → ℕ) (n : ℕ) → ((i : ℕ) → i < n → Numbered f i) → (i j : ℕ) → i < j → j < n → f i < f j
+rising f n g i zero h k = absurd (omega arith)
+rising f n g i (suc j) h k =
+    ⊎-elim
+    (λ (e : i ≡ j). omega (arith, ap f e, g (suc j) k .rising j refl))
+    (λ (l : i < j). omega (arith, rising f n g i j l (omega arith), g (suc j) k .rising j refl))
+    (eq-or-lt-of-le (le-of-suc-le-suc h))
+
+pub accepted-good : (l : List ℕ) → Accepted l → Good (unitList l) (streamList l)
+unfolding unitList streamList
+accepted-good l a =
+    let u = length-table (unitAt l) (unitCount l) in
+    let s = length-table (streamIn l) (streamCount l) in
+    let stream : (i : ℕ) → i < streamCount l → getD (table (streamIn l) (streamCount l)) i noStream ≡ streamIn l i =
+    λ i h. getD-table (streamIn l) (streamCount l) noStream i h in
+    record {
+      fewUnits = omega (arith, u, a .header .units);
+      fewStreams = omega (arith, s, a .header .streams);
+      units = λ i h.
+          numbered-same (unitAt l) (λ (j : ℕ). getD (table (unitAt l) (unitCount l)) j 0) (unitCount l) i
+          (λ j k. getD-table (unitAt l) (unitCount l) 0 j k) (omega (arith, u)) (a .units i (omega (arith, u)));
+      streams = λ i h.
+          numbered-same (streamNumberIn l) (λ (j : ℕ). getD (table (streamIn l) (streamCount l)) j noStream .number) (streamCount l) i
+          (λ j k. ap (λ (t : Stream). t .number) (stream j k)) (omega (arith, s)) (a .streams i (omega (arith, s)) .numbered);
+      sound = λ i h. rw (stream i (omega (arith, s))) (a .streams i (omega (arith, s)) .sound);
+    }
+
+-- the flowsheet of a reading that refuses nothing
+pub reading-good : (l : List ℕ) → readingOf l .number ≡ 0
+    → (readingOf l .sheet ≡ sheetOf (unitList l) (streamList l)) × Good (unitList l) (streamList l)
+reading-good l e =
+    let a : answerOf l ≡ 0 = sym (reading-number l) ∙ e in
+    (ap (λ (r : Reading). r .sheet) (reading-accepted l a), accepted-good l (is-accepted l a))
