@@ -32,7 +32,7 @@ module _ (W : ℕ → ℕ → ℕ) (n : ℕ) where
   filled-first l s =
       filled-more l 0 0 (λ j g. absurd (omega arith)) (rw (members-zero n) (least-nil W)) (omega arith) (omega arith)
 
--- a set with as many digits as it has members
+-- a set with a member is not the empty set
 pub members-pos : (n m : ℕ) → 0 < length (members n m) → 0 < m
 members-pos n zero h = absurd (omega (arith, ap length (members-zero n)))
 members-pos n (suc m) h = omega arith

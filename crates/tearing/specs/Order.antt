@@ -21,6 +21,7 @@ abbrev pub upto : ℕ → List ℕ
 upto zero = []
 upto (suc k) = upto k ++ (k ∷ [])
 
+-- a where the test holds, else b
 abbrev pub choose : Bool → ℕ → ℕ → ℕ
 choose true a b = a
 choose false a b = b
