@@ -1,0 +1,28 @@
+-- The table of direct links between the units of a flowsheet, by their places in the unit table: bit j of row i is 1 where a stream
+-- runs from the unit in place i to the unit in place j. Outside has no place, and so no bit.
+use mathlib.Core.List.{List, [], _∷_}
+use Prim.Native.Nat.{ℕ, _^_}
+use lib.Bits.{bitOr}
+use lib.ListN.{getD, set, replicate}
+use Rattle.flowsheet.specs.Sheet.{placeOf}
+use Rattle.flowsheet.specs.declared.Stream.{Stream}
+use Rattle.flowsheet.specs.declared.Place.{Place}
+use Rattle.flowsheet.specs.declared.Place.the-variants.{At, Nowhere}
+
+-- the table t with the link between two places more
+abbrev pub linkAt : Place → Place → List ℕ → List ℕ
+linkAt (At i) (At j) t = set t i (bitOr (getD t i 0) (2 ^ j))
+linkAt (At i) Nowhere t = t
+linkAt Nowhere q t = t
+
+-- the table t with the link of one stream more
+unfoldable pub withLink : List ℕ → List ℕ → Stream → List ℕ
+withLink us t s = linkAt (placeOf us (s .source)) (placeOf us (s .receiver)) t
+
+-- the table t with the links of all the streams more
+abbrev pub withLinks : List ℕ → List ℕ → List Stream → List ℕ
+withLinks us t [] = t
+withLinks us t (s ∷ ss) = withLinks us (withLink us t s) ss
+
+unfoldable pub linksOf : List ℕ → List Stream → List ℕ
+linksOf us ss = withLinks us (replicate 64 0) ss

@@ -1,0 +1,21 @@
+// The plan of a flowsheet, its image, and the part of it that a screen asks for.
+ghost use mathlib.Core.Path.{_≡_};
+
+// At most 256 numbers of 16 bits; the places beyond the count are zero.
+pub struct Numbers {
+    pub count: usize,
+    pub numbers: [u16; 256],
+}
+
+// A plan as its three tables: four numbers for each block, the units in order, the torn streams block by block.
+pub struct Plan {
+    pub blocks: Numbers,
+    pub order: Numbers,
+    pub torn: Numbers,
+}
+
+// What a screen asks for of a block: its units, or its torn streams.
+pub enum Asked {
+    Units,
+    Tears,
+}
