@@ -8,7 +8,7 @@ use native.Mathlib.Decide.{ℕ-discrete}
 use lib.Bits.{bitOr}
 use lib.ListN.{length, getD, set, replicate}
 use lib.Seq.{getD-set-same, getD-set-other}
-use Rattle.blocks.specs.Links.{bit, Link}
+use Rattle.blocks.specs.Links.{linked, bit, Link}
 use Rattle.blocks.proofs.Bits.{bit-zero, bit-one, bit-one-same, or-left, or-right, or-either}
 
 getD-zeros : (n i : ℕ) → _≡_ {A = ℕ} (getD (replicate n 0) i 0) 0
@@ -22,7 +22,7 @@ link-none n i j h = omega (arith, ap (bit j) (getD-zeros n i), bit-zero j, h)
 
 -- With bit j of row i set, the table has one link more, from i to j.
 pub link-more : (t : List ℕ) (i j : ℕ) → i < length t → (a b : ℕ)
-    → Link (set t i (bitOr (getD t i 0) (2 ^ j))) a b ↔ (Link t a b ⊎ ((a ≡ i) × (b ≡ j)))
+    → Link (linked t i j) a b ↔ (Link t a b ⊎ ((a ≡ i) × (b ≡ j)))
 link-more t i j h a b = elim (ℕ-discrete a i) [ yes e ↦ row e | no f ↦ (λ l. inl (other f .0 l), back f) ]
   where
     v : ℕ

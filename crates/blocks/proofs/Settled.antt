@@ -1,8 +1,9 @@
--- Each public function's statement settles its answer: two results that it allows are equal. None of them writes to what it is lent.
+-- Each public function's statement settles its answer: two results that it allows are equal. Only `link` writes to what it is lent.
 -- Assumes nothing.
 use mathlib.Core.Path.{_≡_, sym, _∙_}
 use mathlib.Core.List.{List}
 use Prim.Native.Nat.{ℕ}
+use Rattle.blocks.specs.Links.{linked}
 use Rattle.blocks.specs.Reach.{reachOf}
 use Rattle.blocks.specs.Blocks.{membersOf}
 use Rattle.blocks.specs.Order.{orderOf}
@@ -28,3 +29,6 @@ pub order-settled : (t : List ℕ) (n : ℕ) (r s : BlockOrder) → Holds (order
 order-settled t n r s p q =
     let e = holds-settled p q in
     λ i. record { count = (e .0) i; first = (e .1) i }
+
+pub link-settled : (t : List ℕ) (i j : ℕ) (r s : List ℕ) → r ≡ linked t i j → s ≡ linked t i j → r ≡ s
+link-settled t i j r s p q = p ∙ sym q

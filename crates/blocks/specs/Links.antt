@@ -3,8 +3,9 @@
 use mathlib.Core.Path.{_≡_}
 use mathlib.Core.Logic.{_⊎_}
 use mathlib.Core.List.{List}
-use Prim.Native.Nat.{ℕ, zero, suc, _/_, _%_}
-use lib.ListN.{getD}
+use Prim.Native.Nat.{ℕ, zero, suc, _/_, _%_, _^_}
+use lib.Bits.{bitOr}
+use lib.ListN.{getD, set}
 
 -- Bit j of the number m, by halves. A number stands for the set of the places j whose bit is 1.
 abbrev pub bit : ℕ → ℕ → ℕ
@@ -14,6 +15,10 @@ bit (suc j) m = bit j (m / 2)
 -- The table t has a link from i to j.
 abbrev pub Link : List ℕ → ℕ → ℕ → Type 0
 Link t i j = bit j (getD t i 0) ≡ 1
+
+-- The table t with the link from i to j more.
+abbrev pub linked : List ℕ → ℕ → ℕ → List ℕ
+linked t i j = set t i (bitOr (getD t i 0) (2 ^ j))
 
 -- "One unit reaches another if a path of one or more streams leads from it there, through units only."
 pub data Path (L : ℕ → ℕ → Type 0) : ℕ → ℕ → Type 0 where

@@ -3,8 +3,8 @@
 
 ghost use mathlib.Core.Path.{_≡_};
 ghost use Prim.Native.Nat.{ℕ, _<_, _≤_, _^_};
-ghost use lib.ListN.{getD};
-ghost use Rattle.blocks.specs.Links.{bit};
+ghost use lib.ListN.{length, getD};
+ghost use Rattle.blocks.specs.Links.{bit, linked};
 ghost use Rattle.blocks.specs.Reach.{roundOf, reachOf};
 ghost use Rattle.blocks.specs.Blocks.{columnOf, blockIn, membersOf};
 ghost use Rattle.blocks.specs.Order.{freeIn, lowestFree, orderOf};
@@ -36,6 +36,14 @@ fn one(j: usize) -> u64
     ensures { λ r. ⌜ r ≡ 2 ^ j ⌝ }
 {
     1 << j
+}
+
+// Adds the link from one place to another to a table of links.
+pub fn link(table: &mut [u64; 64], from: usize, to: usize)
+    requires { ⌜ (from < 64) × (to < 64) × (length (now table) ≡ 64) ⌝ }
+    ensures { λ _. ⌜ now (table .exit) ≡ linked (now (table .entry)) from to ⌝ }
+{
+    table[from] = table[from] | one(to);
 }
 
 // Round k: whoever reaches k reaches what k reaches.
