@@ -1,9 +1,9 @@
 -- The table of direct links between the units of a flowsheet, by their places in the unit table: bit j of row i is 1 where a stream
 -- runs from the unit in place i to the unit in place j. Outside has no place, and so no bit.
 use mathlib.Core.List.{List, [], _∷_}
-use Prim.Native.Nat.{ℕ, _^_}
-use lib.Bits.{bitOr}
-use lib.ListN.{getD, set, replicate}
+use Prim.Native.Nat.{ℕ}
+use lib.ListN.{replicate}
+use Rattle.blocks.specs.Links.{linked}
 use Rattle.flowsheet.specs.Sheet.{placeOf}
 use Rattle.flowsheet.specs.declared.Stream.{Stream}
 use Rattle.flowsheet.specs.declared.Place.{Place}
@@ -11,7 +11,7 @@ use Rattle.flowsheet.specs.declared.Place.the-variants.{At, Nowhere}
 
 -- the table t with the link between two places more
 abbrev pub linkAt : Place → Place → List ℕ → List ℕ
-linkAt (At i) (At j) t = set t i (bitOr (getD t i 0) (2 ^ j))
+linkAt (At i) (At j) t = linked t i j
 linkAt (At i) Nowhere t = t
 linkAt Nowhere q t = t
 

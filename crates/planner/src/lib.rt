@@ -1,5 +1,6 @@
 // The plan of a flowsheet, its image, and the part of it that a screen asks for.
-ghost use mathlib.Core.Path.{_≡_};
+mod block;
+mod links;
 
 // At most 256 numbers of 16 bits; the places beyond the count are zero.
 pub struct Numbers {

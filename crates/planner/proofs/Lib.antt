@@ -1,0 +1,2 @@
+-- The laws of the plan that the crates above cite.
+mod Turns
