@@ -4,7 +4,7 @@ use mathlib.Core.Bool.{Bool, true, false, not, _&&_, _||_}
 use Prim.Native.Nat.{ℕ, _≤_, _<_}
 use native.Mathlib.Omega.{arith}
 use lib.Dec.{T, eqb, ltb}
-use borrow.Author.Tests.{ltb-true, ltb-false, eqb-true, eq-eqb}
+use borrow.Author.Tests.{ltb-true, ltb-false, eqb-true, eqb-false, lt-ltb, le-ltb, eq-eqb}
 
 -- a flag isn't both
 pub true-false : {A : Type 0} → true ≡ false → A
@@ -58,3 +58,15 @@ below-level a b l = go (ltb a b) refl
     go false h =
         let g : b ≤ a = ltb-false a b h in
         let k : eqb b a ≡ true = eq-eqb b a (omega arith) in rw (h, k)
+
+-- what isn't at most b is above it
+pub not-at-most : (a b : ℕ) → not (ltb a b || (eqb a b && true)) ≡ ltb b a
+not-at-most a b = go (ltb a b) (eqb a b) refl refl
+  where
+    go : (p q : Bool) → ltb a b ≡ p → eqb a b ≡ q → not (p || (q && true)) ≡ ltb b a
+    go true q e f = sym (le-ltb b a (let z : a < b = ltb-true a b e in omega arith))
+    go false true e f = sym (le-ltb b a (let z : a ≡ b = eqb-true a b f in omega arith))
+    go false false e f =
+        let z : b ≤ a = ltb-false a b e in
+        let n : a ≡ b → ⊥ = eqb-false a b f in
+        sym (lt-ltb b a (omega arith))

@@ -1,3 +1,6 @@
 pub mod Flags
 pub mod Sizes
 pub mod Left
+pub mod Says
+pub mod Refusals
+pub mod Accepted

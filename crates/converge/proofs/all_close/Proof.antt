@@ -1,6 +1,7 @@
 -- `converge::all_close` meets its contract: what is left of the two rows decides. Assumes nothing.
 use mathlib.Core.Path.{_≡_, refl}
 use Prim.Native.Nat.{_≤_, _-_}
+use borrow.Author.Tests.{not-true, not-false}
 use lib.ListN.{length, drop}
 use Rattle.converge.specs.Row.{allClose}
 use Rattle.converge.proofs.Left.{close-left, close-end}
@@ -38,7 +39,7 @@ returns : tie.Need-returns Inv-loop μ-loop
 returns c = 
     let a = c .before .before .before .before .before .before .before .before .args in
     let l = c .before .before .before .before .before .loop in
-    simp (l .inv .1, close-left (a .x .now) (a .y .now) (l .i) (a .tolerance) (omega arith) (omega arith), ← c .before .is-close .ensures, c .if1 .taken)
+    simp (l .inv .1, close-left (a .x .now) (a .y .now) (l .i) (a .tolerance) (omega arith) (omega arith), ← c .before .is-close .ensures, not-true (c .before .is-close .result) (c .if1 .taken))
 
 add-i : tie.Need-add-i Inv-loop μ-loop
 add-i c = omega arith
@@ -50,10 +51,10 @@ loop-again : tie.Need-loop-again Inv-loop μ-loop
 loop-again c = 
     let a = c .before .before .before .before .before .before .before .before .args in
     let l = c .before .before .before .before .before .loop in
-    (omega arith, simp (l .inv .1, close-left (a .x .now) (a .y .now) (l .i) (a .tolerance) (omega arith) (omega arith), ← c .before .is-close .ensures, c .if1 .left))
+    (omega arith, simp (l .inv .1, close-left (a .x .now) (a .y .now) (l .i) (a .tolerance) (omega arith) (omega arith), ← c .before .is-close .ensures, not-false (c .before .is-close .result) (c .if1 .left)))
 
 returns-2 : tie.Need-returns-2 Inv-loop μ-loop
-returns-2 c = simp (c .before .loop .inv .1, close-end (c .before .before .before .before .args .x .now) (c .before .before .before .before .args .y .now) (c .before .loop .i) _ (c .loop-test .left))
+returns-2 c = simp (c .before .loop .inv .1, close-end (c .before .before .before .before .args .x .now) (c .before .before .before .before .args .y .now) (c .before .loop .i) (c .before .before .before .before .args .tolerance) (c .loop-test .left))
 
 pub all-close-spec : {M : Type 1} → statement M
 all-close-spec =

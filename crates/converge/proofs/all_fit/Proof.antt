@@ -1,6 +1,7 @@
 -- `converge::all_fit` meets its contract: what is left of the row decides. Assumes nothing.
 use mathlib.Core.Path.{_≡_, refl}
 use Prim.Native.Nat.{_≤_, _-_}
+use borrow.Author.Tests.{not-true, not-false}
 use lib.ListN.{length, drop}
 use Rattle.converge.specs.Row.{usableRow}
 use Rattle.converge.proofs.Left.{usable-left, usable-end}
@@ -31,7 +32,7 @@ returns : tie.Need-returns Inv-loop μ-loop
 returns c = 
     let a = c .before .before .before .before .before .before .args in
     let l = c .before .before .before .before .loop in
-    simp (l .inv .1, usable-left (a .row .now) (l .i) (c .before .before .before .loop-test .taken), ← c .before .fit .ensures, c .if1 .taken)
+    simp (l .inv .1, usable-left (a .row .now) (l .i) (c .before .before .before .loop-test .taken), ← c .before .fit .ensures, not-true (c .before .fit .result) (c .if1 .taken))
 
 add-i : tie.Need-add-i Inv-loop μ-loop
 add-i c = omega arith
@@ -43,7 +44,7 @@ loop-again : tie.Need-loop-again Inv-loop μ-loop
 loop-again c = 
     let a = c .before .before .before .before .before .before .args in
     let l = c .before .before .before .before .loop in
-    (omega arith, simp (l .inv .1, usable-left (a .row .now) (l .i) (c .before .before .before .loop-test .taken), ← c .before .fit .ensures, c .if1 .left))
+    (omega arith, simp (l .inv .1, usable-left (a .row .now) (l .i) (c .before .before .before .loop-test .taken), ← c .before .fit .ensures, not-false (c .before .fit .result) (c .if1 .left)))
 
 returns-2 : tie.Need-returns-2 Inv-loop μ-loop
 returns-2 c = simp (c .before .loop .inv .1, usable-end (c .before .before .before .args .row .now) (c .before .loop .i) (c .loop-test .left))

@@ -1,6 +1,7 @@
 -- `converge::all_fit_records` meets its contract: what is left of the two rows decides. Assumes nothing.
 use mathlib.Core.Path.{_≡_, refl}
 use Prim.Native.Nat.{_≤_, _-_}
+use borrow.Author.Tests.{not-true, not-false}
 use lib.ListN.{length, drop}
 use Rattle.converge.specs.Row.{recordsOf, usableRecords}
 use Rattle.converge.proofs.Left.{usable-records-left, records-end}
@@ -38,7 +39,7 @@ returns : tie.Need-returns Inv-loop μ-loop
 returns c = 
     let a = c .before .before .before .before .before .before .before .before .args in
     let l = c .before .before .before .before .before .loop in
-    simp (l .inv .1, usable-records-left (a .past-x .now) (a .past-y .now) (l .i) (omega arith) (omega arith), ← c .before .fit-record .ensures, c .if1 .taken)
+    simp (l .inv .1, usable-records-left (a .past-x .now) (a .past-y .now) (l .i) (omega arith) (omega arith), ← c .before .fit-record .ensures, not-true (c .before .fit-record .result) (c .if1 .taken))
 
 add-i : tie.Need-add-i Inv-loop μ-loop
 add-i c = omega arith
@@ -50,7 +51,7 @@ loop-again : tie.Need-loop-again Inv-loop μ-loop
 loop-again c = 
     let a = c .before .before .before .before .before .before .before .before .args in
     let l = c .before .before .before .before .before .loop in
-    (omega arith, simp (l .inv .1, usable-records-left (a .past-x .now) (a .past-y .now) (l .i) (omega arith) (omega arith), ← c .before .fit-record .ensures, c .if1 .left))
+    (omega arith, simp (l .inv .1, usable-records-left (a .past-x .now) (a .past-y .now) (l .i) (omega arith) (omega arith), ← c .before .fit-record .ensures, not-false (c .before .fit-record .result) (c .if1 .left)))
 
 returns-2 : tie.Need-returns-2 Inv-loop μ-loop
 returns-2 c = simp (c .before .loop .inv .1, records-end (c .before .before .before .before .args .past-x .now) (c .before .before .before .before .args .past-y .now) (c .before .loop .i) (c .loop-test .left))

@@ -1,48 +1,50 @@
+-- `converge::judge_value` meets its contract: each way out is one verdict. Assumes nothing.
+use mathlib.Core.Path.{refl}
+use borrow.Author.Tests.{eq-eqb, ne-eqb}
+use Rattle.converge.specs.Row.{after, judged, allClose, largestOf, largestFrom, nextsOf, strayOr, recordsOf}
+use Rattle.converge.proofs.Flags.{and-true}
 use borrow.Author.Needs.{needs}
 use Rattle.converge.proofs.judge_value.Statement.{statement}
 use Rattle.converge.proofs.judge_value.Tie as tie
-use Rattle.converge.proofs.judge_value.Reads as reads
-use Rattle.converge.proofs.judge_value.Lts as lts
-use Rattle.converge.proofs.gap.Reads as gap-reads
-use Rattle.converge.proofs.is_beyond.Reads as is-beyond-reads
-use Rattle.converge.proofs.is_close.Reads as is-close-reads
-use Rattle.converge.proofs.next_value.Reads as next-value-reads
 
--- src/lib.rt:229:9
 gap-requires : tie.Need-gap-requires
 gap-requires c κs = search needs
 
--- src/lib.rt:230:8
 is-close-requires : tie.Need-is-close-requires
 is-close-requires c κs = search needs
 
--- src/lib.rt:231:9
 returns : tie.Need-returns
-returns c = ?
+unfolding after judged allClose largestOf largestFrom
+returns c = 
+    simp (and-true, ← c .before .is-close .ensures, c .if1 .taken, ← c .before .before .gap .ensures)
+    (record { verdict = refl; x = refl; past = refl; count = refl })
 
--- src/lib.rt:234:9
 returns-2 : tie.Need-returns-2
-returns-2 c = ?
+unfolding after judged allClose largestOf largestFrom
+returns-2 c = 
+    simp (and-true, ← c .before .before .is-close .ensures, c .before .if1 .left, eq-eqb _ _ (c .if2 .taken), ← c .before .before .before .gap .ensures)
+    (record { verdict = refl; x = refl; past = refl; count = refl })
 
--- src/lib.rt:236:9
 next-value-requires : tie.Need-next-value-requires
 next-value-requires c κs = search needs
 
--- src/lib.rt:237:8
 is-beyond-requires : tie.Need-is-beyond-requires
 is-beyond-requires c κs = search needs
 
--- src/lib.rt:238:9
 returns-3 : tie.Need-returns-3
-returns-3 c = ?
+unfolding after judged allClose nextsOf strayOr
+returns-3 c = 
+    simp (and-true, ← c .before .before .before .before .before .is-close .ensures, c .before .before .before .before .if1 .left, ne-eqb _ _ (c .before .before .before .if2 .left), ← c .before .before .next-value .ensures, ← c .before .is-beyond .ensures, c .if3 .taken)
+    (record { verdict = refl; x = refl; past = refl; count = refl })
 
--- src/lib.rt:244:16
 add-t19 : tie.Need-add-t19
 add-t19 c = search needs
 
--- src/lib.rt:217:1
 returns-4 : tie.Need-returns-4
-returns-4 c = ?
+unfolding after judged allClose largestOf largestFrom nextsOf strayOr recordsOf
+returns-4 c = 
+    simp (and-true, ← c .before .before .before .before .before .is-close .ensures, c .before .before .before .before .if1 .left, ne-eqb _ _ (c .before .before .before .if2 .left), ← c .before .before .next-value .ensures, ← c .before .is-beyond .ensures, c .if3 .left, ← c .before .before .before .before .before .before .gap .ensures)
+    (record { verdict = refl; x = refl; past = refl; count = refl })
 
 pub judge-value-spec : {M : Type 1} → statement M
 judge-value-spec =

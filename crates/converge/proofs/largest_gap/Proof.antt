@@ -60,7 +60,7 @@ loop-again c =
     (omega arith, simp (l .inv .1, largest-left (a .x .now) (a .y .now) (l .i) (l .top) (omega arith) (omega arith), ← c .before .gap2 .ensures, ← c .larger-of .ensures))
 
 returns : tie.Need-returns Inv-loop μ-loop
-returns c = simp (c .before .loop .inv .1, largest-end (c .before .before .before .before .before .before .before .args .x .now) (c .before .before .before .before .before .before .before .args .y .now) (c .before .loop .i) _ (c .loop-test .left))
+returns c = simp (c .before .loop .inv .1, largest-end (c .before .before .before .before .before .before .before .args .x .now) (c .before .before .before .before .before .before .before .args .y .now) (c .before .loop .i) (c .before .loop .top) (c .loop-test .left))
 
 pub largest-gap-spec : {M : Type 1} → statement M
 largest-gap-spec =

@@ -1,26 +1,31 @@
+-- `converge::step_value` meets its contract: refused, or judged. Assumes nothing.
+use mathlib.Core.Path.{refl, sym, _∙_}
+use mathlib.Core.List.{[], _∷_}
+use borrow.Author.Tests.{eq-eqb, ne-eqb}
+use Rattle.converge.specs.Row.{after, verdictOf, stepped}
+use Rattle.converge.proofs.Accepted.{accepted}
 use borrow.Author.Needs.{needs}
 use Rattle.converge.proofs.step_value.Statement.{statement}
 use Rattle.converge.proofs.step_value.Tie as tie
-use Rattle.converge.proofs.step_value.Reads as reads
-use Rattle.converge.proofs.step_value.Lts as lts
-use Rattle.converge.proofs.judge_value.Reads as judge-value-reads
-use Rattle.converge.proofs.refuse_value.Reads as refuse-value-reads
 
--- src/lib.rt:260:9
 refuse-value-requires : tie.Need-refuse-value-requires
 refuse-value-requires c κs = search needs
 
--- src/lib.rt:262:9
 returns : tie.Need-returns
-returns c = ?
+unfolding stepped after verdictOf
+returns c = 
+    simp (← c .before .refuse-value .ensures, ne-eqb _ _ (c .if1 .taken))
+    (record { verdict = refl; x = refl; past = refl; count = refl })
 
--- src/lib.rt:264:5
 judge-value-requires : tie.Need-judge-value-requires
-judge-value-requires c κs = ?
+judge-value-requires c κs = 
+    let s = c .before .before .args in
+    let k = accepted (s .x ∷ []) (s .y ∷ []) (s .past ∷ []) (s .count) (s .method) (s .tolerance) (s .limit) (sym (c .before .refuse-value .ensures) ∙ c .if1 .left) in
+    (k .within, k .most)
 
--- src/lib.rt:249:1
 returns-2 : tie.Need-returns-2
-returns-2 c = ?
+unfolding stepped verdictOf
+returns-2 c = simp (← c .before .before .refuse-value .ensures, eq-eqb _ _ (c .before .if1 .left)) (c .judge-value .ensures)
 
 pub step-value-spec : {M : Type 1} → statement M
 step-value-spec = tie.close (tie.spec refuse-value-requires returns judge-value-requires returns-2)

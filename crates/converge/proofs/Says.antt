@@ -1,0 +1,74 @@
+-- A test and the statement that it decides: the test passes where the statement holds, and fails where it doesn't. Assumes nothing.
+use mathlib.Core.Path.{_≡_, refl, sym, _∙_}
+use mathlib.Core.Bool.{Bool, true, false, not, cond, _&&_, _||_}
+use mathlib.Core.List.{List, [], _∷_}
+use mathlib.Core.Logic.{_⊎_, inl, inr, ⊎-elim}
+use Prim.Native.Nat.{ℕ, _<_, _≤_}
+use native.Mathlib.Omega.{arith}
+use lib.Dec.{eqb, ltb}
+use borrow.Author.Tests.{ltb-true, ltb-false, eqb-true, eqb-false}
+use Rattle.converge.proofs.Flags.{true-false, false-true}
+
+pub record Says (t : Bool) (P : Type 0) : Type 0 where
+  pub holds : t ≡ true → P
+  pub fails : t ≡ false → P → ⊥
+
+-- what holds passes the test, and what doesn't fails it
+pub passes : {P : Type 0} (t : Bool) → Says t P → P → t ≡ true
+passes true s p = refl
+passes false s p = absurd (s .fails refl p)
+
+pub misses : {P : Type 0} (t : Bool) → Says t P → (P → ⊥) → t ≡ false
+misses true s n = absurd (n (s .holds refl))
+misses false s n = refl
+
+pub says-eqb : (a b : ℕ) → Says (eqb a b) (a ≡ b)
+says-eqb a b = record { holds = eqb-true a b; fails = eqb-false a b }
+
+pub says-ltb : (a b : ℕ) → Says (ltb a b) (a < b)
+says-ltb a b = record { holds = ltb-true a b; fails = λ e l. let g : b ≤ a = ltb-false a b e in omega arith }
+
+pub says-flag : (t : Bool) → Says t (t ≡ true)
+says-flag t = record { holds = λ e. e; fails = λ e h. true-false (sym h ∙ e) }
+
+pub says-no-flag : (t : Bool) → Says (not t) (t ≡ false)
+says-no-flag true = record { holds = λ e. false-true e; fails = λ e h. true-false h }
+says-no-flag false = record { holds = λ e. refl; fails = λ e h. true-false e }
+
+pub says-not : {P : Type 0} (t : Bool) → Says t P → Says (not t) (P → ⊥)
+says-not true s = record { holds = λ e. false-true e; fails = λ e n. n (s .holds refl) }
+says-not false s = record { holds = λ e. s .fails refl; fails = λ e. true-false e }
+
+pub says-or : {P Q : Type 0} (a b : Bool) → Says a P → Says b Q → Says (a || b) (P ⊎ Q)
+says-or true b s r = record { holds = λ e. inl (s .holds refl); fails = λ e. true-false e }
+says-or false b s r = record { holds = λ e. inr (r .holds e); fails = λ e. ⊎-elim (s .fails refl) (r .fails e) }
+
+pub says-and : {P Q : Type 0} (a b : Bool) → Says a P → Says b Q → Says (a && b) (P × Q)
+says-and true b s r = record { holds = λ e. (s .holds refl, r .holds e); fails = λ e w. r .fails e (w .1) }
+says-and false b s r = record { holds = λ e. false-true e; fails = λ e w. s .fails refl (w .0) }
+
+pub says-nand : {P Q : Type 0} (a b : Bool) → Says (not a) P → Says (not b) Q → Says (not (a && b)) (P ⊎ Q)
+says-nand true b s r = record { holds = λ e. inr (r .holds e); fails = λ e. ⊎-elim (s .fails refl) (r .fails e) }
+says-nand false b s r = record { holds = λ e. inl (s .holds refl); fails = λ e. true-false e }
+
+-- ---- a table whose first line that holds gives its number
+
+pub data Line : Type 1 where
+  line : ℕ → Type 0 → Line
+
+-- n is the number of the first line that holds, and d where none does
+abbrev pub First : List Line → ℕ → ℕ → Type 0
+First [] d n = n ≡ d
+First (line k P ∷ t) d n = (P × (n ≡ k)) ⊎ ((P → ⊥) × First t d n)
+
+pub first-line : {P : Type 0} (b : Bool) (k : ℕ) (t : List Line) (d n : ℕ) → Says b P → First t d n → First (line k P ∷ t) d (cond b k n)
+first-line true k t d n s f = inl (s .holds refl, refl)
+first-line false k t d n s f = inr (s .fails refl, f)
+
+-- there is one such number
+pub first-one : (t : List Line) (d n m : ℕ) → First t d n → First t d m → n ≡ m
+first-one [] d n m f g = f ∙ sym g
+first-one (line k P ∷ t) d n m (inl f) (inl g) = f .1 ∙ sym (g .1)
+first-one (line k P ∷ t) d n m (inl f) (inr g) = absurd (g .0 (f .0))
+first-one (line k P ∷ t) d n m (inr f) (inl g) = absurd (f .0 (g .0))
+first-one (line k P ∷ t) d n m (inr f) (inr g) = first-one t d n m (f .1) (g .1)
