@@ -330,3 +330,181 @@ fn largest_gap(x: &[f64], y: &[f64]) -> f64
     }
     top
 }
+
+// 34: whether the count is over the limit, or counts and some record has a value that isn't fit.
+fn records_wrong(past_x: &[f64], past_y: &[f64], count: u16, limit: u32) -> bool
+    requires { ⌜ length (now «past_x») ≡ length (now «past_y») ⌝ }
+    ensures { λ r. ⌜ r ≡ recordsWrong (recordsOf (now («past_x» .entry)) (now («past_y» .entry))) count limit ⌝ }
+{
+    if limit < count as u32 {
+        return true;
+    }
+    if 0 < count {
+        return !all_fit_records(past_x, past_y);
+    }
+    false
+}
+
+// The refusal of a step of a row whose records stand in two rows of one length, or 0.
+fn refuse_row(
+    x: &[f64],
+    y: &[f64],
+    past_x: &[f64],
+    past_y: &[f64],
+    count: u16,
+    method: u32,
+    tolerance: f64,
+    limit: u32,
+) -> u32
+    requires { ⌜ length (now «past_x») ≡ length (now «past_y») ⌝ }
+    ensures { λ r. ⌜ r ≡ refusalOf (now (x .entry)) (now (y .entry)) (recordsOf (now («past_x» .entry)) (now («past_y» .entry))) count method tolerance limit ⌝ }
+{
+    if rows_wrong(x.len(), y.len(), past_x.len()) {
+        return 30;
+    }
+    if tolerance_wrong(tolerance) {
+        return 31;
+    }
+    if limit_wrong(limit, method) {
+        return 32;
+    }
+    if !all_fit(x) {
+        return 33;
+    }
+    if !all_fit(y) {
+        return 33;
+    }
+    if records_wrong(past_x, past_y, count, limit) {
+        return 34;
+    }
+    0
+}
+
+// Strayed with the first next value beyond 1e12 in size, else Moved with `top`.
+fn stray_or_move(
+    x: &[f64],
+    y: &[f64],
+    past_x: &[f64],
+    past_y: &[f64],
+    count: u16,
+    method: u32,
+    top: f64,
+) -> Verdict
+    requires { ⌜ (length (now x) ≡ length (now y)) × (length (now x) ≡ length (now «past_x»)) × (length (now x) ≡ length (now «past_y»)) ⌝ }
+    ensures { λ r. ⌜ answerOf r ≡ strayOr (nextsOf (now (x .entry)) (now (y .entry)) (recordsOf (now («past_x» .entry)) (now («past_y» .entry))) count method) (moved top) ⌝ }
+{
+    let mut i = 0;
+    while i < x.len() {
+        let a = past_x[i];
+        let b = past_y[i];
+        let next = next_value(x[i], y[i], History { x: a, y: b }, count, method);
+        if is_beyond(next) {
+            return Verdict::Strayed(next);
+        }
+        i += 1;
+    }
+    Verdict::Moved(top)
+}
+
+// The verdict of a row that isn't refused.
+fn judge_row(
+    x: &[f64],
+    y: &[f64],
+    past_x: &[f64],
+    past_y: &[f64],
+    count: u16,
+    method: u32,
+    tolerance: f64,
+    limit: u32,
+) -> Verdict
+    requires { ⌜ (length (now x) ≡ length (now y)) × (length (now x) ≡ length (now «past_x»)) × (length (now x) ≡ length (now «past_y»)) × (0 < length (now x)) ⌝ }
+    ensures { λ r. ⌜ answerOf r ≡ judged (now (x .entry)) (now (y .entry)) (recordsOf (now («past_x» .entry)) (now («past_y» .entry))) count method tolerance limit ⌝ }
+{
+    let top = largest_gap(x, y);
+    if all_close(x, y, tolerance) {
+        return Verdict::Settled(top);
+    }
+    if count as u32 == limit {
+        return Verdict::Spent(top);
+    }
+    stray_or_move(x, y, past_x, past_y, count, method, top)
+}
+
+// The verdict of a row: refused, or judged.
+fn answer_row(
+    x: &[f64],
+    y: &[f64],
+    past_x: &[f64],
+    past_y: &[f64],
+    count: u16,
+    method: u32,
+    tolerance: f64,
+    limit: u32,
+) -> Verdict
+    ensures { λ r. ⌜ answerOf r ≡ rowsStepped (now (x .entry)) (now (y .entry)) (now («past_x» .entry)) (now («past_y» .entry)) count method tolerance limit .answer ⌝ }
+{
+    if past_x.len() != past_y.len() {
+        return Verdict::Refused(30);
+    }
+    let n = refuse_row(x, y, past_x, past_y, count, method, tolerance, limit);
+    if n != 0 {
+        return Verdict::Refused(n);
+    }
+    judge_row(x, y, past_x, past_y, count, method, tolerance, limit)
+}
+
+// Writes the next values over x, and this x and y into the records.
+fn move_row(
+    x: &mut [f64],
+    y: &[f64],
+    past_x: &mut [f64],
+    past_y: &mut [f64],
+    count: u16,
+    method: u32,
+)
+    requires { ⌜ (length (now x) ≡ length (now y)) × (length (now x) ≡ length (now «past_x»)) × (length (now x) ≡ length (now «past_y»)) ⌝ }
+    ensures row { λ _. ⌜ now (x .exit) ≡ nextsOf (now (x .entry)) (now (y .entry)) (recordsOf (now («past_x» .entry)) (now («past_y» .entry))) count method ⌝ }
+    ensures recordX { λ _. ⌜ now («past_x» .exit) ≡ now (x .entry) ⌝ }
+    ensures recordY { λ _. ⌜ now («past_y» .exit) ≡ now (y .entry) ⌝ }
+{
+    let mut i = 0;
+    while i < x.len() {
+        let v = x[i];
+        let w = y[i];
+        let a = past_x[i];
+        let b = past_y[i];
+        x[i] = next_value(v, w, History { x: a, y: b }, count, method);
+        past_x[i] = v;
+        past_y[i] = w;
+        i += 1;
+    }
+}
+
+// The step of a row of 1 to 16 values, with the records as two rows: on Moved the next values stand in x, the records
+// hold this x and y and the count is one more; at every other verdict all stays. Refuses by 30 to 34.
+pub fn step_row(
+    x: &mut [f64],
+    y: &[f64],
+    past_x: &mut [f64],
+    past_y: &mut [f64],
+    count: &mut u16,
+    method: u32,
+    tolerance: f64,
+    limit: u32,
+) -> Verdict
+    ensures { λ r. ⌜ RowStep (rowsStepped (now (x .entry)) (now (y .entry)) (now («past_x» .entry)) (now («past_y» .entry)) (now (count .entry)) method tolerance limit) r (now (x .exit)) (now («past_x» .exit)) (now («past_y» .exit)) (now (count .exit)) ⌝ }
+{
+    let n = *count;
+    let v = answer_row(x, y, past_x, past_y, n, method, tolerance, limit);
+    match v {
+        Verdict::Settled(d) => Verdict::Settled(d),
+        Verdict::Spent(d) => Verdict::Spent(d),
+        Verdict::Strayed(d) => Verdict::Strayed(d),
+        Verdict::Moved(d) => {
+            move_row(x, y, past_x, past_y, n, method);
+            *count = n + 1;
+            Verdict::Moved(d)
+        }
+        Verdict::Refused(k) => Verdict::Refused(k),
+    }
+}
