@@ -6,3 +6,5 @@ pub mod Rows
 pub mod Says
 pub mod Refusals
 pub mod Accepted
+pub mod Verdicts
+pub mod Lent

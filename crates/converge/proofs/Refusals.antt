@@ -13,14 +13,9 @@ use Rattle.converge.specs.Value.{usableRecord}
 use Rattle.converge.specs.Row.{usableRow, usableRecords, rowsWrong, toleranceWrong, limitWrong, valuesWrong, recordsWrong, refusalOf, verdictOf}
 use Rattle.converge.specs.declared.History.{History}
 use Rattle.converge.proofs.Flags.{true-false, false-true, not-at-most}
-use Rattle.converge.proofs.Says.{Says, Line, line, First, first-line, first-one, says-eqb, says-ltb, says-no-flag, says-not, says-or, says-and, says-nand}
+use Rattle.converge.proofs.Says.{Says, Some, none-here, says-some, Line, line, First, first-line, first-one, says-eqb, says-ltb, says-no-flag, says-not, says-or, says-and, says-nand}
 
 -- ---- the table's words
-
--- a member of a list of which P holds
-pub data Some {A : Type 0} (P : A → Type 0) : List A → Type 0 where
-  here : {a : A} {l : List A} → P a → Some P (a ∷ l)
-  later : {a : A} {l : List A} → Some P l → Some P (a ∷ l)
 
 -- not finite or beyond 1e12 in size
 abbrev pub Unfit : Float → Type 0
@@ -66,19 +61,6 @@ says-unfit (inf s) = record { holds = λ e. inl refl; fails = λ e. true-false e
 says-unfit (fin s m e) =
     rw (not-at-most (m * up e * 1) (1000000000000 * down e))
     (record { holds = λ h. inr h; fails = λ h. ⊎-elim (λ (g : true ≡ false). true-false g) (λ (g : ltb (1000000000000 * down e) (m * up e * 1) ≡ true). true-false (sym g ∙ h)) })
-
-module _ {A : Type 0} {P : A → Type 0} where
-  none-here : Some P [] → ⊥
-  none-here w = elim w [ ]
-
-  neither : {a : A} {l : List A} → (P a → ⊥) → (Some P l → ⊥) → Some P (a ∷ l) → ⊥
-  neither n m (here p) = n p
-  neither n m (later w) = m w
-
-  says-some : {a : A} {l : List A} (s t : Bool) → Says (not s) (P a) → Says (not t) (Some P l) → Says (not (s && t)) (Some P (a ∷ l))
-  says-some true true s r = record { holds = λ e. false-true e; fails = λ e. neither (s .fails refl) (r .fails refl) }
-  says-some true false s r = record { holds = λ e. later (r .holds refl); fails = λ e. true-false e }
-  says-some false t s r = record { holds = λ e. here (s .holds refl); fails = λ e. true-false e }
 
 says-row : (row : List Float) → Says (not (usableRow row)) (Some Unfit row)
 unfolding usableRow

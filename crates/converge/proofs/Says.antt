@@ -51,6 +51,26 @@ pub says-nand : {P Q : Type 0} (a b : Bool) → Says (not a) P → Says (not b) 
 says-nand true b s r = record { holds = λ e. inr (r .holds e); fails = λ e. ⊎-elim (s .fails refl) (r .fails e) }
 says-nand false b s r = record { holds = λ e. inl (s .holds refl); fails = λ e. true-false e }
 
+-- ---- lists
+
+-- a member of a list of which P holds
+pub data Some {A : Type 0} (P : A → Type 0) : List A → Type 0 where
+  here : {a : A} {l : List A} → P a → Some P (a ∷ l)
+  later : {a : A} {l : List A} → Some P l → Some P (a ∷ l)
+
+module _ {A : Type 0} {P : A → Type 0} where
+  pub none-here : Some P [] → ⊥
+  none-here w = elim w [ ]
+
+  pub neither : {a : A} {l : List A} → (P a → ⊥) → (Some P l → ⊥) → Some P (a ∷ l) → ⊥
+  neither n m (here p) = n p
+  neither n m (later w) = m w
+
+  pub says-some : {a : A} {l : List A} (s t : Bool) → Says (not s) (P a) → Says (not t) (Some P l) → Says (not (s && t)) (Some P (a ∷ l))
+  says-some true true s r = record { holds = λ e. false-true e; fails = λ e. neither (s .fails refl) (r .fails refl) }
+  says-some true false s r = record { holds = λ e. later (r .holds refl); fails = λ e. true-false e }
+  says-some false t s r = record { holds = λ e. here (s .holds refl); fails = λ e. true-false e }
+
 -- ---- a table whose first line that holds gives its number
 
 pub data Line : Type 1 where

@@ -1,35 +1,30 @@
+-- `converge::judge_row` meets its contract: each way out is one verdict. Assumes nothing.
+use borrow.Author.Tests.{eq-eqb, ne-eqb}
+use Rattle.converge.specs.Row.{judged}
 use borrow.Author.Needs.{needs}
 use Rattle.converge.proofs.judge_row.Statement.{statement}
 use Rattle.converge.proofs.judge_row.Tie as tie
-use Rattle.converge.proofs.judge_row.Reads as reads
-use Rattle.converge.proofs.judge_row.Lts as lts
-use Rattle.converge.proofs.all_close.Reads as all-close-reads
-use Rattle.converge.proofs.largest_gap.Reads as largest-gap-reads
-use Rattle.converge.proofs.stray_or_move.Reads as stray-or-move-reads
 
--- src/lib.rt:423:9
 largest-gap-requires : tie.Need-largest-gap-requires
 largest-gap-requires c κs = search needs
 
--- src/lib.rt:424:8
 all-close-requires : tie.Need-all-close-requires
 all-close-requires c κs = search needs
 
--- src/lib.rt:425:9
 returns : tie.Need-returns
-returns c = ?
+unfolding judged
+returns c = simp (← c .before .all-close .ensures, c .if1 .taken, ← c .before .before .largest-gap .ensures)
 
--- src/lib.rt:428:9
 returns-2 : tie.Need-returns-2
-returns-2 c = ?
+unfolding judged
+returns-2 c = simp (← c .before .before .all-close .ensures, c .before .if1 .left, eq-eqb _ _ (c .if2 .taken), ← c .before .before .before .largest-gap .ensures)
 
--- src/lib.rt:430:5
 stray-or-move-requires : tie.Need-stray-or-move-requires
 stray-or-move-requires c κs = search needs
 
--- src/lib.rt:410:1
 returns-3 : tie.Need-returns-3
-returns-3 c = ?
+unfolding judged
+returns-3 c = simp (← c .before .before .before .all-close .ensures, c .before .before .if1 .left, ne-eqb _ _ (c .before .if2 .left), ← c .before .before .before .before .largest-gap .ensures) (c .stray-or-move .ensures)
 
 pub judge-row-spec : {M : Type 1} → statement M
 judge-row-spec =
