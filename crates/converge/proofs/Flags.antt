@@ -42,6 +42,15 @@ at-most a b t h = go (ltb a b) (eqb a b) refl refl h
     go false true e e′ k = let z : a ≡ b = eqb-true a b e′ in omega arith
     go false false e e′ k = false-true k
 
+pub at-most-back : (a b : ℕ) → a ≤ b → (ltb a b || (eqb a b && true)) ≡ true
+at-most-back a b l = go (ltb a b) refl
+  where
+    go : (t : Bool) → ltb a b ≡ t → (ltb a b || (eqb a b && true)) ≡ true
+    go true h = or-left _ _ h
+    go false h =
+        let g : b ≤ a = ltb-false a b h in
+        let k : eqb a b ≡ true = eq-eqb a b (omega arith) in rw (h, k)
+
 pub at-least : (a b : ℕ) (t : Bool) → (ltb a b || (eqb b a && t)) ≡ true → a ≤ b
 at-least a b t h = go (ltb a b) (eqb b a) refl refl h
   where
@@ -50,8 +59,8 @@ at-least a b t h = go (ltb a b) (eqb b a) refl refl h
     go false true e e′ k = let z : b ≡ a = eqb-true b a e′ in omega arith
     go false false e e′ k = false-true k
 
-pub below-level : (a b : ℕ) → a ≤ b → (ltb a b || (eqb b a && true)) ≡ true
-below-level a b l = go (ltb a b) refl
+pub at-least-back : (a b : ℕ) → a ≤ b → (ltb a b || (eqb b a && true)) ≡ true
+at-least-back a b l = go (ltb a b) refl
   where
     go : (t : Bool) → ltb a b ≡ t → (ltb a b || (eqb b a && true)) ≡ true
     go true h = or-left _ _ h

@@ -8,3 +8,6 @@ pub mod Refusals
 pub mod Accepted
 pub mod Verdicts
 pub mod Lent
+pub mod Finite
+pub mod Largest
+pub mod Carried

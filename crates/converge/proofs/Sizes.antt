@@ -12,7 +12,7 @@ use lib.Ieee.{Float, nan, inf, fin, binary64, ofBits, up, down, neg, lt, le, eq,
 use lib.Ieee.Fits.{up-pos, down-pos}
 use borrow.Author.Tests.{ltb-true, ltb-false, eqb-true, lt-ltb, eq-eqb}
 use Rattle.converge.specs.Doubles.{zero64, lowest, mag}
-use Rattle.converge.proofs.Flags.{true-false, false-true, and-left, or-left, below-level}
+use Rattle.converge.proofs.Flags.{true-false, false-true, and-left, or-left, at-least-back}
 
 -- ---- |v| as the code works it out
 
@@ -66,7 +66,7 @@ unfolding lt le eq neg ofBits
 lowest-le nan h k = false-true k
 lowest-le (inf true) h k = true-false h
 lowest-le (inf false) h k = false-true k
-lowest-le (fin true m e) h k = below-level (m * up e * 1) (5 * 1 * down e) (ltb-false _ _ h)
+lowest-le (fin true m e) h k = at-least-back (m * up e * 1) (5 * 1 * down e) (ltb-false _ _ h)
 lowest-le (fin false m e) h k = or-left _ _ (lt-ltb 0 (5 * 1 * down e + m * up e * 1) (omega (arith, down-pos e)))
 
 pub ends : (le lowest lowest ≡ true) × (le lowest zero64 ≡ true) × (le zero64 zero64 ≡ true)

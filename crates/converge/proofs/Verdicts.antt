@@ -32,7 +32,7 @@ stray-refusal [] a e = e
 stray-refusal (v ∷ vs) a e = refusal-cond (beyond v) (strayed v) (strayOr vs a) refl (stray-refusal vs a e)
 
 -- Strayed where some next is beyond 1e12 in size
-abbrev Beyond : Float → Type 0
+abbrev pub Beyond : Float → Type 0
 Beyond v = beyond v ≡ true
 
 stray-first : (vs : List Float) (top : Float) → First (line 3 (Some Beyond vs) ∷ []) 4 (strayOr vs (moved top) .number)
@@ -100,9 +100,10 @@ module _ (x y : List Float) (past : List History) (count method : ℕ) (toleranc
   pub number-exactly : (n : ℕ) → (verdictOf x y past count method tolerance limit .number ≡ n) ↔ First verdicts 4 n
   number-exactly n = (λ e. subst (λ (k : ℕ). First verdicts 4 k) e number-first, first-one verdicts 4 _ n number-first)
 
-  -- A step that moved was accepted, below its limit.
-  pub moved-accepted : verdictOf x y past count method tolerance limit .number ≡ 4 → Accepted x y past count method tolerance limit × (count < limit)
-  moved-accepted e = refused-or-not (number-exactly 4 .0 e)
+  -- A step that moved was accepted, below its limit, and none of its next values is beyond.
+  moved-lines : verdictOf x y past count method tolerance limit .number ≡ 4
+      → (refusalOf x y past count method tolerance limit ≡ 0) × (count ≡ limit → ⊥) × (Some Beyond (nextsOf x y past count method) → ⊥)
+  moved-lines e = refused-or-not (number-exactly 4 .0 e)
     where
       not-four : {A : Type 0} (k : ℕ) → k < 4 → 4 ≡ k → A
       not-four k l z = absurd (omega arith)
@@ -111,19 +112,32 @@ module _ (x y : List Float) (past : List History) (count method : ℕ) (toleranc
       zero-of zero f = refl
       zero-of (suc r) f = absurd (f (λ z. omega arith))
 
-      spent-or-not : First (line 2 (count ≡ limit) ∷ line 3 (Some Beyond (nextsOf x y past count method)) ∷ []) 4 4 → count ≡ limit → ⊥
+      strayed-or-not : First (line 3 (Some Beyond (nextsOf x y past count method)) ∷ []) 4 4 → Some Beyond (nextsOf x y past count method) → ⊥
+      strayed-or-not (inl f) = not-four 3 (omega arith) (f .1)
+      strayed-or-not (inr f) = f .0
+
+      spent-or-not : First (line 2 (count ≡ limit) ∷ line 3 (Some Beyond (nextsOf x y past count method)) ∷ []) 4 4
+          → (count ≡ limit → ⊥) × (Some Beyond (nextsOf x y past count method) → ⊥)
       spent-or-not (inl f) = not-four 2 (omega arith) (f .1)
-      spent-or-not (inr f) = f .0
+      spent-or-not (inr f) = (f .0, strayed-or-not (f .1))
 
       close-or-not : First
           (line 1 (allClose x y tolerance ≡ true) ∷ line 2 (count ≡ limit) ∷ line 3 (Some Beyond (nextsOf x y past count method)) ∷ []) 4 4
-          → count ≡ limit → ⊥
+          → (count ≡ limit → ⊥) × (Some Beyond (nextsOf x y past count method) → ⊥)
       close-or-not (inl f) = not-four 1 (omega arith) (f .1)
       close-or-not (inr f) = spent-or-not (f .1)
 
-      refused-or-not : First verdicts 4 4 → Accepted x y past count method tolerance limit × (count < limit)
+      refused-or-not : First verdicts 4 4
+          → (refusalOf x y past count method tolerance limit ≡ 0) × (count ≡ limit → ⊥) × (Some Beyond (nextsOf x y past count method) → ⊥)
       refused-or-not (inl f) = not-four 0 (omega arith) (f .1)
-      refused-or-not (inr f) =
-          let a = accepted x y past count method tolerance limit (zero-of _ (f .0)) in
-          let n = close-or-not (f .1) in
-          (a, omega (arith, a .within))
+      refused-or-not (inr f) = let g = close-or-not (f .1) in (zero-of _ (f .0), g .0, g .1)
+
+  pub moved-accepted : verdictOf x y past count method tolerance limit .number ≡ 4 → Accepted x y past count method tolerance limit × (count < limit)
+  moved-accepted e =
+      let m = moved-lines e in
+      let a = accepted x y past count method tolerance limit (m .0) in
+      let n = m .1 in
+      (a, omega (arith, a .within))
+
+  pub moved-within : verdictOf x y past count method tolerance limit .number ≡ 4 → Some Beyond (nextsOf x y past count method) → ⊥
+  moved-within e = moved-lines e .2
