@@ -11,3 +11,5 @@ pub mod Lent
 pub mod Finite
 pub mod Largest
 pub mod Carried
+pub mod Bound
+pub mod Settled
