@@ -318,7 +318,7 @@ module _ (x y : Float) (ux : usable x ≡ true) (uy : usable y ≡ true) where
   -- The next value of usable values is finite, whatever the record.
   pub next-finite : (past : History) (count method : ℕ) → finite (nextOf x y past count method) ≡ true
   unfolding nextOf
-  next-finite past count method = 
+  next-finite past count method =
       either-finite (eqb method 1 || eqb count 0) y (mixed (factorOf x y past) x y) plain
       (either-finite (eq (factorOf x y past) zero64) y _ plain mix)
     where
@@ -326,10 +326,10 @@ module _ (x y : Float) (ux : usable x ≡ true) (uy : usable y ≡ true) where
       plain = below-finite y 10¹² (usable-below y uy)
 
       mix : finite (add binary64 (mul binary64 (factorOf x y past) x) (mul binary64 (sub binary64 one64 (factorOf x y past)) y)) ≡ true
-      mix = 
-        let w = factor-within x y past in
-        below-finite (add binary64 (mul binary64 (factorOf x y past) x) (mul binary64 (sub binary64 one64 (factorOf x y past)) y)) (11 * 10¹²)
-         (mixed-below (factorOf x y past) (w .0) (w .1))
+      mix =
+          let w = factor-within x y past in
+          below-finite (add binary64 (mul binary64 (factorOf x y past) x) (mul binary64 (sub binary64 one64 (factorOf x y past)) y)) (11 * 10¹²)
+          (mixed-below (factorOf x y past) (w .0) (w .1))
 
   module _ (past : History) (ok : usableRecord past ≡ true) where
     change-below : Below (sub binary64 y (past .y)) (2 * 10¹²)

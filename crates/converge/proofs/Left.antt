@@ -75,8 +75,8 @@ pub stray-left : (x y px py : List Float) (i count method : ℕ) (a : Answer)
     → i < length x → i < length y → i < length px → i < length py
     → strayOr (nextsOf (drop i x) (drop i y) (recordsOf (drop i px) (drop i py)) count method) a
     ≡ cond (beyond (nextOf (getD x i nan) (getD y i nan) (recordAt px py i) count method))
-      (strayed (nextOf (getD x i nan) (getD y i nan) (recordAt px py i) count method))
-      (strayOr (nextsOf (drop (i + 1) x) (drop (i + 1) y) (recordsOf (drop (i + 1) px) (drop (i + 1) py)) count method) a)
+    (strayed (nextOf (getD x i nan) (getD y i nan) (recordAt px py i) count method))
+    (strayOr (nextsOf (drop (i + 1) x) (drop (i + 1) y) (recordsOf (drop (i + 1) px) (drop (i + 1) py)) count method) a)
 unfolding strayOr nextsOf
 stray-left x y px py i count method a hx hy hp hq = rw (records-left px py i, add-one, drop-cons x i nan, drop-cons y i nan)
 

@@ -74,12 +74,12 @@ module _ (x y px py : List Float) (count method : ℕ) (tolerance : Float) (limi
   -- at Moved the rows are of one length, and the count is below the limit
   pub rows-moved : (d : Float) → answerOf (Moved d) ≡ rowsStepped x y px py count method tolerance limit .answer
       → (length x ≡ length y) × (length x ≡ length px) × (length x ≡ length py) × (count < 500)
-        × RowStep (rowsStepped x y px py count method tolerance limit) (Moved d) (nextsOf x y (recordsOf px py) count method) x y (count + 1)
+      × RowStep (rowsStepped x y px py count method tolerance limit) (Moved d) (nextsOf x y (recordsOf px py) count method) x y (count + 1)
   unfolding stepped
   rows-moved d e = go (eqb (length px) (length py)) refl
     where
       go : (b : Bool) → eqb (length px) (length py) ≡ b
-        → (length x ≡ length y) × (length x ≡ length px) × (length x ≡ length py) × (count < 500)
+          → (length x ≡ length y) × (length x ≡ length px) × (length x ≡ length py) × (count < 500)
           × RowStep (rowsStepped x y px py count method tolerance limit) (Moved d) (nextsOf x y (recordsOf px py) count method) x y (count + 1)
       go true q =
           let l : length px ≡ length py = eqb-true _ _ q in
@@ -89,10 +89,14 @@ module _ (x y px py : List Float) (count method : ℕ) (tolerance : Float) (limi
           let m = moved-accepted x y (recordsOf px py) count method tolerance limit n in
           let a = m .0 in
           let r = records-length px py l in
-          let k = rows-level l ∙ ap rowsOf (after-moved x y (recordsOf px py) count method v (eq-eqb _ _ n)) in
-          (a .level, omega (arith, a .recorded), omega (arith, a .recorded), omega (arith, m .1, a .most),
-          subst (λ (s : Rows). RowStep s (Moved d) (nextsOf x y (recordsOf px py) count method) x y (count + 1)) (sym k)
-          (record { verdict = f; x = refl; pastX = sym (records-x x y (a .level)); pastY = sym (records-y x y (a .level)); count = refl }))
+          let k = rows-level l ∙ ap rowsOf (after-moved x y (recordsOf px py) count method v (eq-eqb _ _ n)) in (
+            a .level,
+            omega (arith, a .recorded),
+            omega (arith, a .recorded),
+            omega (arith, m .1, a .most),
+            subst (λ (s : Rows). RowStep s (Moved d) (nextsOf x y (recordsOf px py) count method) x y (count + 1)) (sym k)
+                (record { verdict = f; x = refl; pastX = sym (records-x x y (a .level)); pastY = sym (records-y x y (a .level)); count = refl }),
+          )
       go false q =
           let u = e ∙ ap (λ (s : Rows). s .answer) (rows-unlevel (eqb-false _ _ q)) in
           let z : _≡_ {A = ℕ} 4 0 = ap (λ (a : Answer). a .number) u in

@@ -112,6 +112,7 @@ module _ (x y : List Float) (past : List History) (count method : ℕ) (toleranc
 
   -- Each number is given exactly when its line is the first of the table that holds, and 0 when none does.
   pub refusal-exactly : (n : ℕ) → (refusalOf x y past count method tolerance limit ≡ n) ↔ First (table x y past count method tolerance limit) 0 n
-  refusal-exactly n =
-      (λ e. subst (λ (k : ℕ). First (table x y past count method tolerance limit) 0 k) e refusal-first,
-      first-one (table x y past count method tolerance limit) 0 _ n refusal-first)
+  refusal-exactly n = (
+    λ e. subst (λ (k : ℕ). First (table x y past count method tolerance limit) 0 k) e refusal-first,
+    first-one (table x y past count method tolerance limit) 0 _ n refusal-first,
+  )

@@ -87,12 +87,12 @@ module _ (x y : List Float) (past : List History) (count method : ℕ) (toleranc
     where
       go : (r : ℕ) (b : Bool) → eqb r 0 ≡ b
           → First
-            (line 0 (r ≡ 0 → ⊥)
-            ∷ line 1 (allClose x y tolerance ≡ true)
-            ∷ line 2 (count ≡ limit)
-            ∷ line 3 (Some Beyond (nextsOf x y past count method))
-            ∷ []) 4
-            (cond b (judged x y past count method tolerance limit) (refused r) .number)
+          (line 0 (r ≡ 0 → ⊥)
+          ∷ line 1 (allClose x y tolerance ≡ true)
+          ∷ line 2 (count ≡ limit)
+          ∷ line 3 (Some Beyond (nextsOf x y past count method))
+          ∷ []) 4
+          (cond b (judged x y past count method tolerance limit) (refused r) .number)
       go r true e = inr (λ n. n (eqb-true r 0 e), judged-first)
       go r false e = inl (eqb-false r 0 e, refl)
 

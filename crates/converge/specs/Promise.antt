@@ -22,6 +22,10 @@ pub record ValueStep (s : Stepped) (r : Step) : Type 0 where
   pub past : r .past ∷ [] ≡ s .past
   pub count : r .count ≡ s .count
 
+-- A verdict beside what it leaves.
+abbrev pub stayed : Verdict → Float → History → ℕ → Step
+stayed verdict x past count = record { verdict = verdict; x = x; past = past; count = count }
+
 -- The records as two rows, of x and of y: rows of unequal length are 30.
 pub record Rows : Type 0 where
   pub answer : Answer

@@ -7,7 +7,7 @@ ghost use lib.ListN.{length};
 ghost use lib.Ieee.{le};
 ghost use Rattle.converge.specs.Doubles.{zero64, lowest, larger, mag, usable, beyond};
 ghost use Rattle.converge.specs.Answer.{answerOf, moved};
-ghost use Rattle.converge.specs.Promise.{ValueStep, RowStep, valueStepped, rowsStepped};
+ghost use Rattle.converge.specs.Promise.{ValueStep, RowStep, stayed, valueStepped, rowsStepped};
 ghost use Rattle.converge.specs.Row.{recordsOf, largestOf, allClose, nextsOf, strayOr, usableRow, usableRecords, rowsWrong, toleranceWrong, limitWrong, recordsWrong, refusalOf, judged, after};
 ghost use Rattle.converge.specs.Value.{gapOf, close, factorOf, nextOf, usableRecord};
 
@@ -213,6 +213,18 @@ fn refuse_value(
     0
 }
 
+// A verdict at which nothing changes.
+fn stay(verdict: Verdict, x: f64, past: History, count: u16) -> Step
+    ensures { λ r. ⌜ r ≡ stayed verdict x past count ⌝ }
+{
+    Step {
+        verdict,
+        x,
+        past,
+        count,
+    }
+}
+
 // The step of one value that isn't refused.
 fn judge_value(
     x: f64,
@@ -227,21 +239,23 @@ fn judge_value(
     ensures { λ r. ⌜ ValueStep (after (x ∷ []) (y ∷ []) (past ∷ []) count method (judged (x ∷ []) (y ∷ []) (past ∷ []) count method tolerance limit)) r ⌝ }
 {
     let d = gap(x, y);
+    let this = History { x, y };
+    let raised = count + 1;
     if is_close(x, y, tolerance) {
-        return Step { verdict: Verdict::Settled(d), x, past, count };
+        return stay(Verdict::Settled(d), x, past, count);
     }
     if count as u32 == limit {
-        return Step { verdict: Verdict::Spent(d), x, past, count };
+        return stay(Verdict::Spent(d), x, past, count);
     }
     let next = next_value(x, y, past, count, method);
     if is_beyond(next) {
-        return Step { verdict: Verdict::Strayed(next), x, past, count };
+        return stay(Verdict::Strayed(next), x, past, count);
     }
     Step {
         verdict: Verdict::Moved(d),
         x: next,
-        past: History { x, y },
-        count: count + 1,
+        past: this,
+        count: raised,
     }
 }
 
@@ -259,7 +273,7 @@ pub fn step_value(
 {
     let n = refuse_value(x, y, past, count, method, tolerance, limit);
     if n != 0 {
-        return Step { verdict: Verdict::Refused(n), x, past, count };
+        return stay(Verdict::Refused(n), x, past, count);
     }
     judge_value(x, y, past, count, method, tolerance, limit)
 }
@@ -323,10 +337,10 @@ fn largest_gap(x: &[f64], y: &[f64]) -> f64
     ensures { λ r. ⌜ r ≡ largestOf (now (x .entry)) (now (y .entry)) ⌝ }
 {
     let mut top = gap(x[0], y[0]);
-    let mut i = 1;
-    while i < x.len() {
-        top = larger_of(top, gap(x[i], y[i]));
-        i += 1;
+    let mut k = 1;
+    while k < x.len() {
+        top = larger_of(top, gap(x[k], y[k]));
+        k += 1;
     }
     top
 }

@@ -36,7 +36,7 @@ is-close-requires : tie.Need-is-close-requires Inv-loop μ-loop
 is-close-requires c κs = search needs
 
 returns : tie.Need-returns Inv-loop μ-loop
-returns c = 
+returns c =
     let a = c .before .before .before .before .before .before .before .before .args in
     let l = c .before .before .before .before .before .loop in
     simp (l .inv .1, close-left (a .x .now) (a .y .now) (l .i) (a .tolerance) (omega arith) (omega arith), ← c .before .is-close .ensures, not-true (c .before .is-close .result) (c .if1 .taken))
@@ -48,7 +48,7 @@ loop-less : tie.Need-loop-less Inv-loop μ-loop
 loop-less c = omega arith
 
 loop-again : tie.Need-loop-again Inv-loop μ-loop
-loop-again c = 
+loop-again c =
     let a = c .before .before .before .before .before .before .before .before .args in
     let l = c .before .before .before .before .before .loop in
     (omega arith, simp (l .inv .1, close-left (a .x .now) (a .y .now) (l .i) (a .tolerance) (omega arith) (omega arith), ← c .before .is-close .ensures, not-false (c .before .is-close .result) (c .if1 .left)))

@@ -29,7 +29,7 @@ fit-requires : tie.Need-fit-requires Inv-loop μ-loop
 fit-requires c κs = search needs
 
 returns : tie.Need-returns Inv-loop μ-loop
-returns c = 
+returns c =
     let a = c .before .before .before .before .before .before .args in
     let l = c .before .before .before .before .loop in
     simp (l .inv .1, usable-left (a .row .now) (l .i) (c .before .before .before .loop-test .taken), ← c .before .fit .ensures, not-true (c .before .fit .result) (c .if1 .taken))
@@ -41,7 +41,7 @@ loop-less : tie.Need-loop-less Inv-loop μ-loop
 loop-less c = omega arith
 
 loop-again : tie.Need-loop-again Inv-loop μ-loop
-loop-again c = 
+loop-again c =
     let a = c .before .before .before .before .before .before .args in
     let l = c .before .before .before .before .loop in
     (omega arith, simp (l .inv .1, usable-left (a .row .now) (l .i) (c .before .before .before .loop-test .taken), ← c .before .fit .ensures, not-false (c .before .fit .result) (c .if1 .left)))

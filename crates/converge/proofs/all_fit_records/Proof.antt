@@ -36,7 +36,7 @@ fit-record-requires : tie.Need-fit-record-requires Inv-loop μ-loop
 fit-record-requires c κs = search needs
 
 returns : tie.Need-returns Inv-loop μ-loop
-returns c = 
+returns c =
     let a = c .before .before .before .before .before .before .before .before .args in
     let l = c .before .before .before .before .before .loop in
     simp (l .inv .1, usable-records-left (a .past-x .now) (a .past-y .now) (l .i) (omega arith) (omega arith), ← c .before .fit-record .ensures, not-true (c .before .fit-record .result) (c .if1 .taken))
@@ -48,7 +48,7 @@ loop-less : tie.Need-loop-less Inv-loop μ-loop
 loop-less c = omega arith
 
 loop-again : tie.Need-loop-again Inv-loop μ-loop
-loop-again c = 
+loop-again c =
     let a = c .before .before .before .before .before .before .before .before .args in
     let l = c .before .before .before .before .before .loop in
     (omega arith, simp (l .inv .1, usable-records-left (a .past-x .now) (a .past-y .now) (l .i) (omega arith) (omega arith), ← c .before .fit-record .ensures, not-false (c .before .fit-record .result) (c .if1 .left)))

@@ -13,7 +13,7 @@ use Rattle.converge.proofs.answer_row.Statement.{statement}
 use Rattle.converge.proofs.answer_row.Tie as tie
 
 returns : tie.Need-returns
-returns c = 
+returns c =
     let a = c .before .before .before .before .before .args in
     sym (ap (λ (s : Rows). s .answer) (rows-unlevel (a .x .now) (a .y .now) (a .past-x .now) (a .past-y .now) (a .count) (a .method) (a .tolerance) (a .limit) (c .if1 .taken)))
 
@@ -22,12 +22,12 @@ refuse-row-requires c κs = search needs
 
 returns-2 : tie.Need-returns-2
 unfolding verdictOf
-returns-2 c = 
+returns-2 c =
     let a = c .before .before .before .before .before .before .before .args in
     simp (rows-answer (a .x .now) (a .y .now) (a .past-x .now) (a .past-y .now) (a .count) (a .method) (a .tolerance) (a .limit) (c .before .before .if1 .left), ← c .before .refuse-row .ensures, ne-eqb _ _ (c .if2 .taken))
 
 judge-row-requires : tie.Need-judge-row-requires
-judge-row-requires c κs = 
+judge-row-requires c κs =
     let a = c .before .before .before .before .before .before .before .args in
     let l = c .before .before .if1 .left in
     let r = records-length (a .past-x .now) (a .past-y .now) l in
@@ -36,7 +36,7 @@ judge-row-requires c κs =
 
 returns-3 : tie.Need-returns-3
 unfolding verdictOf
-returns-3 c = 
+returns-3 c =
     let a = c .before .before .before .before .before .before .before .before .args in
     simp (rows-answer (a .x .now) (a .y .now) (a .past-x .now) (a .past-y .now) (a .count) (a .method) (a .tolerance) (a .limit) (c .before .before .before .if1 .left), ← c .before .before .refuse-row .ensures, eq-eqb _ _ (c .before .if2 .left)) (c .judge-row .ensures)
 

@@ -14,9 +14,10 @@ returns-2 c = (simp (c .before .if1 .left, c .if2 .taken), (ends .0, ends .1))
 
 returns-3 : tie.Need-returns-3
 unfolding factorOf
-returns-3 c =
-    (simp (c .before .before .if1 .left, c .before .if2 .left, c .if3 .taken),
-    (lowest-le _ (c .before .if2 .left) (c .if3 .taken), c .if3 .taken))
+returns-3 c = (
+  simp (c .before .before .if1 .left, c .before .if2 .left, c .if3 .taken),
+  (lowest-le _ (c .before .if2 .left) (c .if3 .taken), c .if3 .taken),
+)
 
 returns-4 : tie.Need-returns-4
 unfolding factorOf

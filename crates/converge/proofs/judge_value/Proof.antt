@@ -10,19 +10,28 @@ use Rattle.converge.proofs.judge_value.Tie as tie
 gap-requires : tie.Need-gap-requires
 gap-requires c κs = search needs
 
+add-raised : tie.Need-add-raised
+add-raised c = search needs
+
 is-close-requires : tie.Need-is-close-requires
 is-close-requires c κs = search needs
 
+stay-requires : tie.Need-stay-requires
+stay-requires c κs = search needs
+
 returns : tie.Need-returns
 unfolding after judged allClose largestOf largestFrom
-returns c = 
-    simp (and-true, ← c .before .is-close .ensures, c .if1 .taken, ← c .before .before .gap .ensures)
+returns c =
+    simp (c .stay .ensures, and-true, ← c .before .before .is-close .ensures, c .before .if1 .taken, ← c .before .before .before .gap .ensures)
     (record { verdict = refl; x = refl; past = refl; count = refl })
+
+stay-requires-2 : tie.Need-stay-requires-2
+stay-requires-2 c κs = search needs
 
 returns-2 : tie.Need-returns-2
 unfolding after judged allClose largestOf largestFrom
-returns-2 c = 
-    simp (and-true, ← c .before .before .is-close .ensures, c .before .if1 .left, eq-eqb _ _ (c .if2 .taken), ← c .before .before .before .gap .ensures)
+returns-2 c =
+    simp (c .stay2 .ensures, and-true, ← c .before .before .before .is-close .ensures, c .before .before .if1 .left, eq-eqb _ _ (c .before .if2 .taken), ← c .before .before .before .before .gap .ensures)
     (record { verdict = refl; x = refl; past = refl; count = refl })
 
 next-value-requires : tie.Need-next-value-requires
@@ -31,18 +40,18 @@ next-value-requires c κs = search needs
 is-beyond-requires : tie.Need-is-beyond-requires
 is-beyond-requires c κs = search needs
 
+stay-requires-3 : tie.Need-stay-requires-3
+stay-requires-3 c κs = search needs
+
 returns-3 : tie.Need-returns-3
 unfolding after judged allClose nextsOf strayOr
-returns-3 c = 
-    simp (and-true, ← c .before .before .before .before .before .is-close .ensures, c .before .before .before .before .if1 .left, ne-eqb _ _ (c .before .before .before .if2 .left), ← c .before .before .next-value .ensures, ← c .before .is-beyond .ensures, c .if3 .taken)
+returns-3 c =
+    simp (c .stay3 .ensures, and-true, ← c .before .before .before .before .before .before .is-close .ensures, c .before .before .before .before .before .if1 .left, ne-eqb _ _ (c .before .before .before .before .if2 .left), ← c .before .before .before .next-value .ensures, ← c .before .before .is-beyond .ensures, c .before .if3 .taken)
     (record { verdict = refl; x = refl; past = refl; count = refl })
-
-add-t19 : tie.Need-add-t19
-add-t19 c = search needs
 
 returns-4 : tie.Need-returns-4
 unfolding after judged allClose largestOf largestFrom nextsOf strayOr recordsOf
-returns-4 c = 
+returns-4 c =
     simp (and-true, ← c .before .before .before .before .before .is-close .ensures, c .before .before .before .before .if1 .left, ne-eqb _ _ (c .before .before .before .if2 .left), ← c .before .before .next-value .ensures, ← c .before .is-beyond .ensures, c .if3 .left, ← c .before .before .before .before .before .before .gap .ensures)
     (record { verdict = refl; x = refl; past = refl; count = refl })
 
@@ -51,11 +60,14 @@ judge-value-spec =
     tie.close
     (tie.spec
     gap-requires
+    add-raised
     is-close-requires
+    stay-requires
     returns
+    stay-requires-2
     returns-2
     next-value-requires
     is-beyond-requires
+    stay-requires-3
     returns-3
-    add-t19
     returns-4)

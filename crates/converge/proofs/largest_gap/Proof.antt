@@ -10,10 +10,10 @@ use Rattle.converge.proofs.largest_gap.Statement.{statement}
 use Rattle.converge.proofs.largest_gap.Tie as tie
 
 abbrev Inv-loop : tie.InvT-loop
-Inv-loop x y top₀ i₀ top i = (i ≤ length x) × (largestOf x y ≡ largestFrom top (drop i x) (drop i y))
+Inv-loop x y top₀ k₀ top k = (k ≤ length x) × (largestOf x y ≡ largestFrom top (drop k x) (drop k y))
 
 abbrev μ-loop : tie.MeasureT-loop
-μ-loop x y top₀ i₀ top i = length x - i
+μ-loop x y top₀ k₀ top k = length x - k
 
 shared-slice-read-gap : tie.Need-shared-slice-read-gap Inv-loop μ-loop
 shared-slice-read-gap c = omega arith
@@ -25,7 +25,7 @@ gap-requires : tie.Need-gap-requires Inv-loop μ-loop
 gap-requires c κs = search needs
 
 loop-holds : tie.Need-loop-holds Inv-loop μ-loop
-loop-holds c = 
+loop-holds c =
     let a = c .before .before .before .before .before .args in
     (omega arith, simp (largest-first (a .x .now) (a .y .now) (omega arith) (omega arith), ← c .gap .ensures))
 
@@ -47,20 +47,20 @@ gap-requires-2 c κs = search needs
 larger-of-requires : tie.Need-larger-of-requires Inv-loop μ-loop
 larger-of-requires c κs = search needs
 
-add-i : tie.Need-add-i Inv-loop μ-loop
-add-i c = omega arith
+add-k : tie.Need-add-k Inv-loop μ-loop
+add-k c = omega arith
 
 loop-less : tie.Need-loop-less Inv-loop μ-loop
 loop-less c = omega arith
 
 loop-again : tie.Need-loop-again Inv-loop μ-loop
-loop-again c = 
+loop-again c =
     let a = c .before .before .before .before .before .before .before .before .before .before .before .args in
     let l = c .before .before .before .before .before .loop in
-    (omega arith, simp (l .inv .1, largest-left (a .x .now) (a .y .now) (l .i) (l .top) (omega arith) (omega arith), ← c .before .gap2 .ensures, ← c .larger-of .ensures))
+    (omega arith, simp (l .inv .1, largest-left (a .x .now) (a .y .now) (l .k) (l .top) (omega arith) (omega arith), ← c .before .gap2 .ensures, ← c .larger-of .ensures))
 
 returns : tie.Need-returns Inv-loop μ-loop
-returns c = simp (c .before .loop .inv .1, largest-end (c .before .before .before .before .before .before .before .args .x .now) (c .before .before .before .before .before .before .before .args .y .now) (c .before .loop .i) (c .before .loop .top) (c .loop-test .left))
+returns c = simp (c .before .loop .inv .1, largest-end (c .before .before .before .before .before .before .before .args .x .now) (c .before .before .before .before .before .before .before .args .y .now) (c .before .loop .k) (c .before .loop .top) (c .loop-test .left))
 
 pub largest-gap-spec : {M : Type 1} → statement M
 largest-gap-spec =
@@ -78,7 +78,7 @@ largest-gap-spec =
     shared-slice-read-gap-4
     gap-requires-2
     larger-of-requires
-    add-i
+    add-k
     loop-less
     loop-again
     returns)

@@ -10,7 +10,7 @@ rows-wrong-requires c κs = search needs
 
 returns : tie.Need-returns
 unfolding refusalOf valuesWrong
-returns c = 
+returns c =
     let a = c .before .before .before .before .before .before .args in
     simp (records-length (a .past-x .now) (a .past-y .now) (c .before .before .before .before .before .before .pre), ← c .before .rows-wrong .ensures, c .if1 .taken)
 
@@ -19,7 +19,7 @@ tolerance-wrong-requires c κs = search needs
 
 returns-2 : tie.Need-returns-2
 unfolding refusalOf valuesWrong
-returns-2 c = 
+returns-2 c =
     let a = c .before .before .before .before .before .before .before .before .args in
     simp (records-length (a .past-x .now) (a .past-y .now) (c .before .before .before .before .before .before .before .before .pre), ← c .before .before .before .rows-wrong .ensures, c .before .before .if1 .left, ← c .before .tolerance-wrong .ensures, c .if2 .taken)
 
@@ -28,7 +28,7 @@ limit-wrong-requires c κs = search needs
 
 returns-3 : tie.Need-returns-3
 unfolding refusalOf valuesWrong
-returns-3 c = 
+returns-3 c =
     let a = c .before .before .before .before .before .before .before .before .before .before .args in
     simp (records-length (a .past-x .now) (a .past-y .now) (c .before .before .before .before .before .before .before .before .before .before .pre), ← c .before .before .before .before .before .rows-wrong .ensures, c .before .before .before .before .if1 .left, ← c .before .before .before .tolerance-wrong .ensures, c .before .before .if2 .left, ← c .before .limit-wrong .ensures, c .if3 .taken)
 
@@ -37,7 +37,7 @@ all-fit-requires c κs = search needs
 
 returns-4 : tie.Need-returns-4
 unfolding refusalOf valuesWrong
-returns-4 c = 
+returns-4 c =
     let a = c .before .before .before .before .before .before .before .before .before .before .before .before .args in
     simp (records-length (a .past-x .now) (a .past-y .now) (c .before .before .before .before .before .before .before .before .before .before .before .before .pre), ← c .before .before .before .before .before .before .before .rows-wrong .ensures, c .before .before .before .before .before .before .if1 .left, ← c .before .before .before .before .before .tolerance-wrong .ensures, c .before .before .before .before .if2 .left, ← c .before .before .before .limit-wrong .ensures, c .before .before .if3 .left, ← c .before .all-fit .ensures, c .if4 .taken)
 
@@ -46,7 +46,7 @@ all-fit-requires-2 c κs = search needs
 
 returns-5 : tie.Need-returns-5
 unfolding refusalOf valuesWrong
-returns-5 c = 
+returns-5 c =
     let a = c .before .before .before .before .before .before .before .before .before .before .before .before .before .before .args in
     simp (records-length (a .past-x .now) (a .past-y .now) (c .before .before .before .before .before .before .before .before .before .before .before .before .before .before .pre), ← c .before .before .before .before .before .before .before .before .before .rows-wrong .ensures, c .before .before .before .before .before .before .before .before .if1 .left, ← c .before .before .before .before .before .before .before .tolerance-wrong .ensures, c .before .before .before .before .before .before .if2 .left, ← c .before .before .before .before .before .limit-wrong .ensures, c .before .before .before .before .if3 .left, ← c .before .before .before .all-fit .ensures, c .before .before .if4 .left, ← c .before .all-fit2 .ensures, c .if5 .taken)
 
@@ -55,13 +55,13 @@ records-wrong-requires c κs = search needs
 
 returns-6 : tie.Need-returns-6
 unfolding refusalOf valuesWrong
-returns-6 c = 
+returns-6 c =
     let a = c .before .before .before .before .before .before .before .before .before .before .before .before .before .before .before .before .args in
     simp (records-length (a .past-x .now) (a .past-y .now) (c .before .before .before .before .before .before .before .before .before .before .before .before .before .before .before .before .pre), ← c .before .before .before .before .before .before .before .before .before .before .before .rows-wrong .ensures, c .before .before .before .before .before .before .before .before .before .before .if1 .left, ← c .before .before .before .before .before .before .before .before .before .tolerance-wrong .ensures, c .before .before .before .before .before .before .before .before .if2 .left, ← c .before .before .before .before .before .before .before .limit-wrong .ensures, c .before .before .before .before .before .before .if3 .left, ← c .before .before .before .before .before .all-fit .ensures, c .before .before .before .before .if4 .left, ← c .before .before .before .all-fit2 .ensures, c .before .before .if5 .left, ← c .before .records-wrong .ensures, c .if6 .taken)
 
 returns-7 : tie.Need-returns-7
 unfolding refusalOf valuesWrong
-returns-7 c = 
+returns-7 c =
     let a = c .before .before .before .before .before .before .before .before .before .before .before .before .before .before .before .before .args in
     simp (records-length (a .past-x .now) (a .past-y .now) (c .before .before .before .before .before .before .before .before .before .before .before .before .before .before .before .before .pre), ← c .before .before .before .before .before .before .before .before .before .before .before .rows-wrong .ensures, c .before .before .before .before .before .before .before .before .before .before .if1 .left, ← c .before .before .before .before .before .before .before .before .before .tolerance-wrong .ensures, c .before .before .before .before .before .before .before .before .if2 .left, ← c .before .before .before .before .before .before .before .limit-wrong .ensures, c .before .before .before .before .before .before .if3 .left, ← c .before .before .before .before .before .all-fit .ensures, c .before .before .before .before .if4 .left, ← c .before .before .before .all-fit2 .ensures, c .before .before .if5 .left, ← c .before .records-wrong .ensures, c .if6 .left)
 

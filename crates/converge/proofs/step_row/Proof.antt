@@ -24,14 +24,14 @@ enum-known-v-4 : tie.Need-enum-known-v-4
 enum-known-v-4 c = search needs
 
 move-row-requires : tie.Need-move-row-requires
-move-row-requires c κs = 
+move-row-requires c κs =
     let a = c .before .before .before .before .before .before .before .before .before .before .before .before .before .before .before .args in
     let g = c .before .before .before .before .v4 .given in
     let m = rows-moved (a .x .now) (a .y .now) (a .past-x .now) (a .past-y .now) (a .count .now) (a .method) (a .tolerance) (a .limit) (g .0 .0) (ap answerOf (sym (g .1)) ∙ c .before .before .before .before .before .before .answer-row .ensures) in
     (m .0, m .1, m .2)
 
 add-count : tie.Need-add-count
-add-count c = 
+add-count c =
     let a = c .before .before .before .before .before .before .before .before .before .before .before .before .before .before .before .before .before .before .before .before .before .before .args in
     let g = c .before .before .before .before .before .before .before .before .before .before .before .v4 .given in
     let m = rows-moved (a .x .now) (a .y .now) (a .past-x .now) (a .past-y .now) (a .count .now) (a .method) (a .tolerance) (a .limit) (g .0 .0) (ap answerOf (sym (g .1)) ∙ c .before .before .before .before .before .before .before .before .before .before .before .before .before .answer-row .ensures) in
@@ -50,7 +50,7 @@ same-length-3 : tie.Need-same-length-3
 same-length-3 c = search needs
 
 returns : tie.Need-returns
-returns c = 
+returns c =
     let a = c .before .before .before .before .before .before .before .before .before .before .before .before .args in
     let g = c .before .v .given in
     rows-kept (a .x .now) (a .y .now) (a .past-x .now) (a .past-y .now) (a .count .now) (a .method) (a .tolerance) (a .limit) (Settled (g .0 .0)) (ap answerOf (sym (g .1)) ∙ c .before .before .before .answer-row .ensures) refl
@@ -65,7 +65,7 @@ same-length-6 : tie.Need-same-length-6
 same-length-6 c = search needs
 
 returns-2 : tie.Need-returns-2
-returns-2 c = 
+returns-2 c =
     let a = c .before .before .before .before .before .before .before .before .before .before .before .before .args in
     let g = c .before .v2 .given in
     rows-kept (a .x .now) (a .y .now) (a .past-x .now) (a .past-y .now) (a .count .now) (a .method) (a .tolerance) (a .limit) (Spent (g .0 .0)) (ap answerOf (sym (g .1)) ∙ c .before .before .before .answer-row .ensures) refl
@@ -80,7 +80,7 @@ same-length-9 : tie.Need-same-length-9
 same-length-9 c = search needs
 
 returns-3 : tie.Need-returns-3
-returns-3 c = 
+returns-3 c =
     let a = c .before .before .before .before .before .before .before .before .before .before .before .before .args in
     let g = c .before .v3 .given in
     rows-kept (a .x .now) (a .y .now) (a .past-x .now) (a .past-y .now) (a .count .now) (a .method) (a .tolerance) (a .limit) (Strayed (g .0 .0)) (ap answerOf (sym (g .1)) ∙ c .before .before .before .answer-row .ensures) refl
@@ -95,7 +95,7 @@ same-length-12 : tie.Need-same-length-12
 same-length-12 c = search needs
 
 returns-4 : tie.Need-returns-4
-returns-4 c = 
+returns-4 c =
     let a = c .before .before .before .before .before .before .before .before .before .before .before .before .before .before .before .before .before .before .before .before .before .before .args in
     let g = c .before .before .before .before .before .before .before .before .before .before .before .v4 .given in
     let m = rows-moved (a .x .now) (a .y .now) (a .past-x .now) (a .past-y .now) (a .count .now) (a .method) (a .tolerance) (a .limit) (g .0 .0) (ap answerOf (sym (g .1)) ∙ c .before .before .before .before .before .before .before .before .before .before .before .before .before .answer-row .ensures) in
@@ -113,7 +113,7 @@ same-length-15 : tie.Need-same-length-15
 same-length-15 c = search needs
 
 returns-5 : tie.Need-returns-5
-returns-5 c = 
+returns-5 c =
     let a = c .before .before .before .before .before .before .before .before .before .before .before .before .args in
     let g = c .before .v5 .given in
     rows-kept (a .x .now) (a .y .now) (a .past-x .now) (a .past-y .now) (a .count .now) (a .method) (a .tolerance) (a .limit) (Refused (g .0 .0)) (ap answerOf (sym (g .1)) ∙ c .before .before .before .answer-row .ensures) refl

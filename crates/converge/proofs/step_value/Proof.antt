@@ -11,14 +11,17 @@ use Rattle.converge.proofs.step_value.Tie as tie
 refuse-value-requires : tie.Need-refuse-value-requires
 refuse-value-requires c κs = search needs
 
+stay-requires : tie.Need-stay-requires
+stay-requires c κs = search needs
+
 returns : tie.Need-returns
 unfolding stepped after verdictOf
-returns c = 
-    simp (← c .before .refuse-value .ensures, ne-eqb _ _ (c .if1 .taken))
+returns c =
+    simp (c .stay .ensures, ← c .before .before .refuse-value .ensures, ne-eqb _ _ (c .before .if1 .taken))
     (record { verdict = refl; x = refl; past = refl; count = refl })
 
 judge-value-requires : tie.Need-judge-value-requires
-judge-value-requires c κs = 
+judge-value-requires c κs =
     let s = c .before .before .args in
     let k = accepted (s .x ∷ []) (s .y ∷ []) (s .past ∷ []) (s .count) (s .method) (s .tolerance) (s .limit) (sym (c .before .refuse-value .ensures) ∙ c .if1 .left) in
     (k .within, k .most)
@@ -28,4 +31,5 @@ unfolding stepped verdictOf
 returns-2 c = simp (← c .before .before .refuse-value .ensures, eq-eqb _ _ (c .before .if1 .left)) (c .judge-value .ensures)
 
 pub step-value-spec : {M : Type 1} → statement M
-step-value-spec = tie.close (tie.spec refuse-value-requires returns judge-value-requires returns-2)
+step-value-spec =
+    tie.close (tie.spec refuse-value-requires stay-requires returns judge-value-requires returns-2)

@@ -14,7 +14,7 @@ abbrev Inv-loop : tie.InvT-loop
 Inv-loop x y past-x past-y count method top i₀ i =
     (i ≤ length x)
     × (strayOr (nextsOf x y (recordsOf past-x past-y) count method) (moved top)
-        ≡ strayOr (nextsOf (drop i x) (drop i y) (recordsOf (drop i past-x) (drop i past-y)) count method) (moved top))
+    ≡ strayOr (nextsOf (drop i x) (drop i y) (recordsOf (drop i past-x) (drop i past-y)) count method) (moved top))
 
 abbrev μ-loop : tie.MeasureT-loop
 μ-loop x y past-x past-y count method top i₀ i = length x - i
@@ -53,7 +53,7 @@ is-beyond-requires : tie.Need-is-beyond-requires Inv-loop μ-loop
 is-beyond-requires c κs = search needs
 
 returns : tie.Need-returns Inv-loop μ-loop
-returns c = 
+returns c =
     let a = c .before .before .before .before .before .before .before .before .before .before .before .before .before .args in
     let l = c .before .before .before .before .before .before .before .before .loop in
     simp (l .inv .1, stray-left (a .x .now) (a .y .now) (a .past-x .now) (a .past-y .now) (l .i) (a .count) (a .method) (moved (a .top)) (omega arith) (omega arith) (omega arith) (omega arith), ← c .before .before .next-value .ensures, ← c .before .is-beyond .ensures, c .if1 .taken)
@@ -65,13 +65,13 @@ loop-less : tie.Need-loop-less Inv-loop μ-loop
 loop-less c = omega arith
 
 loop-again : tie.Need-loop-again Inv-loop μ-loop
-loop-again c = 
+loop-again c =
     let a = c .before .before .before .before .before .before .before .before .before .before .before .before .before .args in
     let l = c .before .before .before .before .before .before .before .before .loop in
     (omega arith, simp (l .inv .1, stray-left (a .x .now) (a .y .now) (a .past-x .now) (a .past-y .now) (l .i) (a .count) (a .method) (moved (a .top)) (omega arith) (omega arith) (omega arith) (omega arith), ← c .before .before .next-value .ensures, ← c .before .is-beyond .ensures, c .if1 .left))
 
 returns-2 : tie.Need-returns-2 Inv-loop μ-loop
-returns-2 c = 
+returns-2 c =
     let a = c .before .before .before .before .before .before .args in
     let l = c .before .loop in
     simp (l .inv .1, stray-end (a .x .now) (a .y .now) (a .past-x .now) (a .past-y .now) (l .i) (a .count) (a .method) (moved (a .top)) (c .loop-test .left))
