@@ -1,5 +1,5 @@
 -- What holds of a step that isn't refused: each of the five tests failed, and a failed test is taken apart. Assumes nothing.
-use mathlib.Core.Path.{_≡_, refl, sym, _∙_}
+use mathlib.Core.Path.{_≡_, refl, sym}
 use mathlib.Core.Bool.{Bool, true, false, not, cond, _&&_, _||_}
 use mathlib.Core.List.{List}
 use mathlib.Core.Logic.{_⊎_, inl, inr, ⊎-map}
@@ -8,7 +8,7 @@ use native.Mathlib.Omega.{arith}
 use lib.Dec.{eqb, ltb}
 use lib.ListN.{length}
 use lib.Ieee.{Float, le}
-use borrow.Author.Tests.{ltb-true, ltb-false, eqb-true, eqb-false, lt-ltb, not-false}
+use borrow.Author.Tests.{ltb-false, eqb-true, eqb-false, lt-ltb, not-false}
 use Rattle.converge.specs.Doubles.{finest, coarsest}
 use Rattle.converge.specs.Row.{usableRow, usableRecords, rowsWrong, toleranceWrong, limitWrong, valuesWrong, recordsWrong, refusalOf}
 use Rattle.converge.specs.declared.History.{History}

@@ -9,15 +9,15 @@ use native.Mathlib.Omega.{arith}
 use lib.Dec.{eqb}
 use lib.ListN.{length}
 use lib.Ieee.{Float}
-use borrow.Author.Tests.{eqb-true, eqb-false, eq-eqb, ne-eqb}
-use Rattle.converge.specs.Answer.{Answer, refused, answerOf}
-use Rattle.converge.specs.Row.{Stepped, stepped, verdictOf, recordsOf}
+use borrow.Author.Tests.{eqb-true, eqb-false}
+use Rattle.converge.specs.Answer.{Answer, answerOf}
+use Rattle.converge.specs.Row.{Stepped, stepped, recordsOf}
 use Rattle.converge.specs.Promise.{ValueStep, RowStep, Rows, valueStepped, rowsStepped}
 use Rattle.converge.specs.declared.History.{History}
 use Rattle.converge.specs.declared.Step.{Step}
 use Rattle.converge.specs.declared.Verdict.{Verdict}
 use Rattle.converge.proofs.Verdicts.{moved-accepted}
-use Rattle.converge.proofs.Lent.{after-kept, after-moved, after-answer, rows-level, rows-unlevel}
+use Rattle.converge.proofs.Lent.{stepped-answer, stepped-kept, stepped-moved, rows-level, rows-unlevel}
 
 -- ---- any step
 
@@ -81,14 +81,12 @@ module _ (limit : ℕ) (Call : ℕ → Answer → ℕ → Type 0) (tied : (n : �
 
 module _ (x y : List Float) (past : List History) (count method : ℕ) (tolerance : Float) (limit : ℕ) where
   pub stepped-tied : Tied limit count (stepped x y past count method tolerance limit .answer) (stepped x y past count method tolerance limit .count)
-  unfolding stepped
   stepped-tied =
-      let v = verdictOf x y past count method tolerance limit in
-      let s = after-answer x y past count method v in
+      let n = ap (λ (a : Answer). a .number) (stepped-answer x y past count method tolerance limit) in
       record {
-        moves = λ e. ap (λ (r : Stepped). r .count) (after-moved x y past count method v (eq-eqb _ _ (sym (ap (λ (a : Answer). a .number) s) ∙ e)));
-        below = λ e. moved-accepted x y past count method tolerance limit (sym (ap (λ (a : Answer). a .number) s) ∙ e) .1;
-        stays = λ n. ap (λ (r : Stepped). r .count) (after-kept x y past count method v (ne-eqb _ _ (λ e. n (ap (λ (a : Answer). a .number) s ∙ e))));
+        moves = λ e. ap (λ (s : Stepped). s .count) (stepped-moved x y past count method tolerance limit (sym n ∙ e));
+        below = λ e. moved-accepted x y past count method tolerance limit (sym n ∙ e) .1;
+        stays = λ f. ap (λ (s : Stepped). s .count) (stepped-kept x y past count method tolerance limit (λ e. f (n ∙ e)));
       }
 
 module _ (x y px py : List Float) (count method : ℕ) (tolerance : Float) (limit : ℕ) where

@@ -8,10 +8,10 @@ use native.Mathlib.Nat.{mul-pos, mul-le-mul, mul-le-mul-right, mul-assoc, mul-co
 use lib.Dec.{T, eqb, ltb, eqb·suc-zero}
 use lib.IntN.{ℤ, pos}
 use lib.Ieee.{Float, nan, inf, fin, Format, binary64, ofBits, up, down, neg, lt, le, eq, isNan, add, sub, mul, div, sum, round, units, odd, prec, low, emax, unlike}
-use lib.Ieee.Fits.{up-pos, down-pos, round-is}
+use lib.Ieee.Fits.{down-pos, round-is}
 use lib.Ieee.Order.{round-mono}
 use lib.Ieee.Scale.{finite}
-use borrow.Author.Tests.{ltb-true, ltb-false, eqb-true, eqb-false, eq-eqb}
+use borrow.Author.Tests.{ltb-false, eqb-true, eq-eqb}
 use Rattle.converge.specs.Doubles.{zero64, one64, lowest, finest, coarsest, mag, larger, usable}
 use Rattle.converge.specs.Value.{gapOf, clamped, rise, factorOf, mixed, nextOf, usableRecord}
 use Rattle.converge.specs.declared.History.{History}
@@ -219,6 +219,19 @@ factor-within x y past = go (eq (rise x y past) zero64)
     go true = (ends .1, ends .2)
     go false = clamped-within (div binary64 (sub binary64 y (past .y)) (rise x y past))
 
+-- Where d is zero nothing is divided: the factor is 0, and next is y.
+pub zero-factor : (x y : Float) (past : History) → eq (rise x y past) zero64 ≡ true → factorOf x y past ≡ zero64
+unfolding factorOf
+zero-factor x y past e = rw e
+
+pub zero-next : (x y : Float) (past : History) (count method : ℕ) → eq (rise x y past) zero64 ≡ true → nextOf x y past count method ≡ y
+unfolding nextOf eq ofBits
+zero-next x y past count method e = rw (zero-factor x y past e) (same (eqb method 1 || eqb count 0))
+  where
+    same : (b : Bool) → cond b y y ≡ y
+    same true = refl
+    same false = refl
+
 factor-below : (q : Float) → le lowest q ≡ true → le q zero64 ≡ true → Below q 5
 unfolding le lt eq neg ofBits
 factor-below nan h k = false-true h
@@ -306,30 +319,43 @@ module _ (x y : Float) (ux : usable x ≡ true) (uy : usable y ≡ true) where
       below-finite (mul binary64 t (larger (mag x) one64)) 10¹²
       (mul-below 10¹² 244140625 12 has-1e12 1 10¹² refl t (larger (mag x) one64) (tolerance-below t h k) larger-below)
 
-  mixed-below : (q : Float) → le lowest q ≡ true → le q zero64 ≡ true
-      → Below (add binary64 (mul binary64 q x) (mul binary64 (sub binary64 one64 q) y)) (11 * 10¹²)
-  mixed-below q a b =
-      let f = factor-below q a b in
-      add-below (11 * 10¹²) 2685546875 12 has-11e12 (5 * 10¹²) (6 * 10¹²) refl (mul binary64 q x) (mul binary64 (sub binary64 one64 q) y)
-      (mul-below (5 * 10¹²) 1220703125 12 has-5e12 5 10¹² refl q x f (usable-below x ux))
-      (mul-below (6 * 10¹²) 732421875 13 has-6e12 6 10¹² refl (sub binary64 one64 q) y
-      (sub-below 6 3 1 has-6 1 5 refl one64 q one-below f) (usable-below y uy))
+  -- the products and the sum of the next value, whatever the record
+  module _ (past : History) where
+    factor-small : Below (factorOf x y past) 5
+    factor-small = let w = factor-within x y past in factor-below (factorOf x y past) (w .0) (w .1)
 
-  -- The next value of usable values is finite, whatever the record.
-  pub next-finite : (past : History) (count method : ℕ) → finite (nextOf x y past count method) ≡ true
-  unfolding nextOf
-  next-finite past count method =
-      either-finite (eqb method 1 || eqb count 0) y (mixed (factorOf x y past) x y) plain
-      (either-finite (eq (factorOf x y past) zero64) y _ plain mix)
-    where
-      plain : finite y ≡ true
-      plain = below-finite y 10¹² (usable-below y uy)
+    scaled-x : Below (mul binary64 (factorOf x y past) x) (5 * 10¹²)
+    scaled-x = mul-below (5 * 10¹²) 1220703125 12 has-5e12 5 10¹² refl (factorOf x y past) x factor-small (usable-below x ux)
 
-      mix : finite (add binary64 (mul binary64 (factorOf x y past) x) (mul binary64 (sub binary64 one64 (factorOf x y past)) y)) ≡ true
-      mix =
-          let w = factor-within x y past in
-          below-finite (add binary64 (mul binary64 (factorOf x y past) x) (mul binary64 (sub binary64 one64 (factorOf x y past)) y)) (11 * 10¹²)
-          (mixed-below (factorOf x y past) (w .0) (w .1))
+    rest-small : Below (sub binary64 one64 (factorOf x y past)) 6
+    rest-small = sub-below 6 3 1 has-6 1 5 refl one64 (factorOf x y past) one-below factor-small
+
+    scaled-y : Below (mul binary64 (sub binary64 one64 (factorOf x y past)) y) (6 * 10¹²)
+    scaled-y =
+        mul-below (6 * 10¹²) 732421875 13 has-6e12 6 10¹² refl (sub binary64 one64 (factorOf x y past)) y rest-small (usable-below y uy)
+
+    sum-small : Below (add binary64 (mul binary64 (factorOf x y past) x) (mul binary64 (sub binary64 one64 (factorOf x y past)) y)) (11 * 10¹²)
+    sum-small =
+        add-below (11 * 10¹²) 2685546875 12 has-11e12 (5 * 10¹²) (6 * 10¹²) refl (mul binary64 (factorOf x y past) x)
+        (mul binary64 (sub binary64 one64 (factorOf x y past)) y) scaled-x scaled-y
+
+    pub products-finite : (finite (mul binary64 (factorOf x y past) x) ≡ true)
+        × (finite (mul binary64 (sub binary64 one64 (factorOf x y past)) y) ≡ true)
+    products-finite = (
+      below-finite (mul binary64 (factorOf x y past) x) (5 * 10¹²) scaled-x,
+      below-finite (mul binary64 (sub binary64 one64 (factorOf x y past)) y) (6 * 10¹²) scaled-y,
+    )
+
+    -- The next value of usable values is finite.
+    pub next-finite : (count method : ℕ) → finite (nextOf x y past count method) ≡ true
+    unfolding nextOf
+    next-finite count method =
+        either-finite (eqb method 1 || eqb count 0) y (mixed (factorOf x y past) x y) plain
+        (either-finite (eq (factorOf x y past) zero64) y _ plain
+        (below-finite (add binary64 (mul binary64 (factorOf x y past) x) (mul binary64 (sub binary64 one64 (factorOf x y past)) y)) (11 * 10¹²) sum-small))
+      where
+        plain : finite y ≡ true
+        plain = below-finite y 10¹² (usable-below y uy)
 
   module _ (past : History) (ok : usableRecord past ≡ true) where
     change-below : Below (sub binary64 y (past .y)) (2 * 10¹²)
@@ -344,6 +370,9 @@ module _ (x y : Float) (ux : usable x ≡ true) (uy : usable y ≡ true) where
         sub-below (4 * 10¹²) 244140625 14 has-4e12 (2 * 10¹²) (2 * 10¹²) refl (sub binary64 y (past .y)) (sub binary64 x (past .x)) change-below
         (sub-below (2 * 10¹²) 244140625 13 has-2e12 10¹² 10¹² refl x (past .x) (usable-below x ux)
         (usable-below (past .x) (and-left (usable (past .x)) (usable (past .y)) ok)))
+
+    pub rise-finite : finite (rise x y past) ≡ true
+    rise-finite = below-finite (rise x y past) (4 * 10¹²) rise-below
 
     -- The quotient of accepted values is a number wherever it is worked out; it may overflow to an infinity, which is clamped.
     pub quotient-number : eq (rise x y past) zero64 ≡ false → isNan (div binary64 (sub binary64 y (past .y)) (rise x y past)) ≡ false

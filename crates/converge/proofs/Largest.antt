@@ -1,23 +1,22 @@
 -- The largest |y − x| of usable rows: it is one of them, and none is larger. Sizes are doubles without a sign, which are
 -- ordered as the numbers that they are. Assumes nothing.
-use mathlib.Core.Path.{_≡_, refl, sym, _∙_, ap, subst}
-use mathlib.Core.Bool.{Bool, true, false, cond, _&&_, _||_}
+use mathlib.Core.Path.{_≡_, refl}
+use mathlib.Core.Bool.{Bool, true, false, cond}
 use mathlib.Core.List.{List, [], _∷_}
 use mathlib.Core.Logic.{_⊎_, inl, inr}
-use Prim.Native.Nat.{ℕ, zero, suc, _+_, _*_, _<_, _≤_}
+use Prim.Native.Nat.{ℕ, zero, suc, _*_, _<_, _≤_}
 use native.Mathlib.Omega.{arith}
-use lib.Dec.{eqb, ltb}
 use lib.IntN.{ℤ}
 use lib.ListN.{length, getD}
-use lib.Ieee.{Float, nan, inf, fin, binary64, ofBits, up, down, lt, le, eq, sub}
+use lib.Ieee.{Float, nan, inf, fin, binary64, up, down, lt, le, eq, sub}
 use lib.Ieee.Fits.{down-pos}
 use lib.Ieee.Positive.{through}
 use lib.Ieee.Scale.{finite}
-use borrow.Author.Tests.{ltb-true, ltb-false, lt-ltb, eq-eqb}
+use borrow.Author.Tests.{ltb-false}
 use Rattle.converge.specs.Doubles.{mag, larger, usable}
 use Rattle.converge.specs.Value.{gapOf}
 use Rattle.converge.specs.Row.{largestFrom, largestOf, usableRow}
-use Rattle.converge.proofs.Flags.{true-false, false-true, and-left, and-right, or-left, at-most, at-most-back}
+use Rattle.converge.proofs.Flags.{false-true, and-left, and-right, or-left, at-most, at-most-back}
 use Rattle.converge.proofs.Finite.{gap-finite}
 
 -- ---- sizes and their order

@@ -1,8 +1,8 @@
 -- What is lent, after a step: on Moved the next values, this x and y and one more; at every other answer all as it stood. Assumes nothing.
 use mathlib.Core.Path.{_≡_, refl, sym, _∙_, ap, subst}
-use mathlib.Core.Bool.{Bool, true, false, cond}
+use mathlib.Core.Bool.{Bool, true, false}
 use mathlib.Core.List.{List}
-use Prim.Native.Nat.{ℕ, _+_, _<_, _≤_}
+use Prim.Native.Nat.{ℕ, _+_, _<_}
 use native.Mathlib.Omega.{arith}
 use lib.Dec.{eqb}
 use lib.ListN.{length}
@@ -15,24 +15,39 @@ use Rattle.converge.specs.declared.History.{History}
 use Rattle.converge.specs.declared.Verdict.{Verdict}
 use Rattle.converge.specs.declared.Verdict.the-variants.{Moved}
 use Rattle.converge.proofs.Rows.{records-length, records-x, records-y}
-use Rattle.converge.proofs.Accepted.{Accepted}
 use Rattle.converge.proofs.Verdicts.{moved-accepted}
 
 module _ (x y : List Float) (past : List History) (count method : ℕ) (a : Answer) where
-  pub after-kept : eqb (a .number) 4 ≡ false → after x y past count method a ≡ kept x past count a
+  after-kept : eqb (a .number) 4 ≡ false → after x y past count method a ≡ kept x past count a
   unfolding after
   after-kept e = rw e
 
-  pub after-moved : eqb (a .number) 4 ≡ true → after x y past count method a ≡ kept (nextsOf x y past count method) (recordsOf x y) (count + 1) a
+  after-moved : eqb (a .number) 4 ≡ true → after x y past count method a ≡ kept (nextsOf x y past count method) (recordsOf x y) (count + 1) a
   unfolding after
   after-moved e = rw e
 
-  pub after-answer : after x y past count method a .answer ≡ a
+  after-answer : after x y past count method a .answer ≡ a
   after-answer = go (eqb (a .number) 4) refl
     where
       go : (b : Bool) → eqb (a .number) 4 ≡ b → after x y past count method a .answer ≡ a
       go true e = ap (λ (s : Stepped). s .answer) (after-moved e)
       go false e = ap (λ (s : Stepped). s .answer) (after-kept e)
+
+module _ (x y : List Float) (past : List History) (count method : ℕ) (tolerance : Float) (limit : ℕ) where
+  pub stepped-answer : stepped x y past count method tolerance limit .answer ≡ verdictOf x y past count method tolerance limit
+  unfolding stepped
+  stepped-answer = after-answer x y past count method (verdictOf x y past count method tolerance limit)
+
+  pub stepped-kept : (verdictOf x y past count method tolerance limit .number ≡ 4 → ⊥)
+      → stepped x y past count method tolerance limit ≡ kept x past count (verdictOf x y past count method tolerance limit)
+  unfolding stepped
+  stepped-kept n = after-kept x y past count method (verdictOf x y past count method tolerance limit) (ne-eqb _ _ n)
+
+  pub stepped-moved : verdictOf x y past count method tolerance limit .number ≡ 4
+      → stepped x y past count method tolerance limit
+      ≡ kept (nextsOf x y past count method) (recordsOf x y) (count + 1) (verdictOf x y past count method tolerance limit)
+  unfolding stepped
+  stepped-moved e = after-moved x y past count method (verdictOf x y past count method tolerance limit) (eq-eqb _ _ e)
 
 module _ (x y px py : List Float) (count method : ℕ) (tolerance : Float) (limit : ℕ) where
   pub rows-level : length px ≡ length py
@@ -47,15 +62,11 @@ module _ (x y px py : List Float) (count method : ℕ) (tolerance : Float) (limi
 
   pub rows-answer : length px ≡ length py
       → rowsStepped x y px py count method tolerance limit .answer ≡ verdictOf x y (recordsOf px py) count method tolerance limit
-  unfolding stepped
-  rows-answer e =
-      ap (λ (s : Rows). s .answer) (rows-level e)
-      ∙ after-answer x y (recordsOf px py) count method (verdictOf x y (recordsOf px py) count method tolerance limit)
+  rows-answer e = ap (λ (s : Rows). s .answer) (rows-level e) ∙ stepped-answer x y (recordsOf px py) count method tolerance limit
 
   -- at an answer other than Moved
   pub rows-kept : (r : Verdict) → answerOf r ≡ rowsStepped x y px py count method tolerance limit .answer → eqb (answerOf r .number) 4 ≡ false
       → RowStep (rowsStepped x y px py count method tolerance limit) r x px py count
-  unfolding stepped
   rows-kept r e h = go (eqb (length px) (length py)) refl
     where
       go : (b : Bool) → eqb (length px) (length py) ≡ b → RowStep (rowsStepped x y px py count method tolerance limit) r x px py count
@@ -63,7 +74,8 @@ module _ (x y px py : List Float) (count method : ℕ) (tolerance : Float) (limi
           let l : length px ≡ length py = eqb-true _ _ q in
           let v = verdictOf x y (recordsOf px py) count method tolerance limit in
           let f : answerOf r ≡ v = e ∙ rows-answer l in
-          let k = rows-level l ∙ ap rowsOf (after-kept x y (recordsOf px py) count method v (ap (λ (a : Answer). eqb (a .number) 4) (sym f) ∙ h)) in
+          let n : v .number ≡ 4 → ⊥ = eqb-false _ _ (ap (λ (a : Answer). eqb (a .number) 4) (sym f) ∙ h) in
+          let k = rows-level l ∙ ap rowsOf (stepped-kept x y (recordsOf px py) count method tolerance limit n) in
           subst (λ (s : Rows). RowStep s r x px py count) (sym k)
           (record { verdict = f; x = refl; pastX = sym (records-x px py l); pastY = sym (records-y px py l); count = refl })
       go false q =
@@ -75,7 +87,6 @@ module _ (x y px py : List Float) (count method : ℕ) (tolerance : Float) (limi
   pub rows-moved : (d : Float) → answerOf (Moved d) ≡ rowsStepped x y px py count method tolerance limit .answer
       → (length x ≡ length y) × (length x ≡ length px) × (length x ≡ length py) × (count < 500)
       × RowStep (rowsStepped x y px py count method tolerance limit) (Moved d) (nextsOf x y (recordsOf px py) count method) x y (count + 1)
-  unfolding stepped
   rows-moved d e = go (eqb (length px) (length py)) refl
     where
       go : (b : Bool) → eqb (length px) (length py) ≡ b
@@ -89,7 +100,7 @@ module _ (x y px py : List Float) (count method : ℕ) (tolerance : Float) (limi
           let m = moved-accepted x y (recordsOf px py) count method tolerance limit n in
           let a = m .0 in
           let r = records-length px py l in
-          let k = rows-level l ∙ ap rowsOf (after-moved x y (recordsOf px py) count method v (eq-eqb _ _ n)) in (
+          let k = rows-level l ∙ ap rowsOf (stepped-moved x y (recordsOf px py) count method tolerance limit n) in (
             a .level,
             omega (arith, a .recorded),
             omega (arith, a .recorded),

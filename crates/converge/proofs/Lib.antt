@@ -10,6 +10,6 @@ pub mod Verdicts
 pub mod Lent
 pub mod Finite
 pub mod Largest
-pub mod Carried
+pub mod Sound
 pub mod Bound
 pub mod Settled

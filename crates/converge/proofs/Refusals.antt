@@ -1,16 +1,17 @@
 -- Each refusal is given exactly when the table says: its test is read as the table's words, and the first of the five that holds is given. Assumes nothing.
 use mathlib.Core.Path.{_≡_, refl, sym, _∙_, subst}
-use mathlib.Core.Bool.{Bool, true, false, not, cond, _&&_, _||_}
+use mathlib.Core.Bool.{Bool, true, false, not, cond}
 use mathlib.Core.List.{List, [], _∷_}
 use mathlib.Core.Logic.{_⊎_, inl, inr, ⊎-elim, _↔_}
-use Prim.Native.Nat.{ℕ, _*_, _<_}
-use lib.Dec.{eqb, ltb}
-use lib.ListN.{length, getD}
+use Prim.Native.Nat.{ℕ, _*_, _<_, _≤_}
+use native.Mathlib.Omega.{arith}
+use lib.Dec.{ltb}
+use lib.ListN.{length}
 use lib.Ieee.{Float, nan, inf, fin, le, lt, eq, up, down, ofBits}
 use lib.Ieee.Scale.{finite}
 use Rattle.converge.specs.Doubles.{finest, coarsest, mag, usable, beyond}
 use Rattle.converge.specs.Value.{usableRecord}
-use Rattle.converge.specs.Row.{usableRow, usableRecords, rowsWrong, toleranceWrong, limitWrong, valuesWrong, recordsWrong, refusalOf, verdictOf}
+use Rattle.converge.specs.Row.{usableRow, usableRecords, rowsWrong, toleranceWrong, limitWrong, valuesWrong, recordsWrong, refusalOf}
 use Rattle.converge.specs.declared.History.{History}
 use Rattle.converge.proofs.Flags.{true-false, false-true, not-at-most}
 use Rattle.converge.proofs.Says.{Says, Some, none-here, says-some, Line, line, First, first-line, first-one, says-eqb, says-ltb, says-no-flag, says-not, says-or, says-and, says-nand}
@@ -51,6 +52,10 @@ table x y past count method tolerance limit =
     ∷ line 33 (Values33 x y)
     ∷ line 34 (Records34 past count limit)
     ∷ []
+
+-- no refusal, or a number from 30 to 34
+abbrev pub Numbered : ℕ → Type 0
+Numbered n = (n ≡ 0) ⊎ ((30 ≤ n) × (n ≤ 34))
 
 -- ---- each test says them
 
@@ -98,6 +103,20 @@ module _ (x y : List Float) (past : List History) (count method : ℕ) (toleranc
   says-34 : Says (recordsWrong past count limit) (Records34 past count limit)
   unfolding recordsWrong
   says-34 = says-or _ _ (says-ltb limit count) (says-and _ _ (says-ltb 0 count) (says-records past))
+
+  pub refusal-range : Numbered (refusalOf x y past count method tolerance limit)
+  unfolding refusalOf
+  refusal-range =
+      go (rowsWrong (length x) (length y) (length past)) (toleranceWrong tolerance) (limitWrong limit method) (valuesWrong x y)
+      (recordsWrong past count limit)
+    where
+      go : (a b c d e : Bool) → Numbered (cond a 30 (cond b 31 (cond c 32 (cond d 33 (cond e 34 0)))))
+      go true b c d e = inr (omega arith, omega arith)
+      go false true c d e = inr (omega arith, omega arith)
+      go false false true d e = inr (omega arith, omega arith)
+      go false false false true e = inr (omega arith, omega arith)
+      go false false false false true = inr (omega arith, omega arith)
+      go false false false false false = inl refl
 
   refusal-first : First (table x y past count method tolerance limit) 0 (refusalOf x y past count method tolerance limit)
   unfolding refusalOf

@@ -13,11 +13,7 @@ pub record Says (t : Bool) (P : Type 0) : Type 0 where
   pub holds : t ≡ true → P
   pub fails : t ≡ false → P → ⊥
 
--- what holds passes the test, and what doesn't fails it
-pub passes : {P : Type 0} (t : Bool) → Says t P → P → t ≡ true
-passes true s p = refl
-passes false s p = absurd (s .fails refl p)
-
+-- what doesn't hold fails the test
 pub misses : {P : Type 0} (t : Bool) → Says t P → (P → ⊥) → t ≡ false
 misses true s n = absurd (n (s .holds refl))
 misses false s n = refl
@@ -27,9 +23,6 @@ says-eqb a b = record { holds = eqb-true a b; fails = eqb-false a b }
 
 pub says-ltb : (a b : ℕ) → Says (ltb a b) (a < b)
 says-ltb a b = record { holds = ltb-true a b; fails = λ e l. let g : b ≤ a = ltb-false a b e in omega arith }
-
-pub says-flag : (t : Bool) → Says t (t ≡ true)
-says-flag t = record { holds = λ e. e; fails = λ e h. true-false (sym h ∙ e) }
 
 pub says-no-flag : (t : Bool) → Says (not t) (t ≡ false)
 says-no-flag true = record { holds = λ e. false-true e; fails = λ e h. true-false h }
@@ -92,3 +85,18 @@ first-one (line k P ∷ t) d n m (inl f) (inl g) = f .1 ∙ sym (g .1)
 first-one (line k P ∷ t) d n m (inl f) (inr g) = absurd (g .0 (f .0))
 first-one (line k P ∷ t) d n m (inr f) (inl g) = absurd (f .0 (g .0))
 first-one (line k P ∷ t) d n m (inr f) (inr g) = first-one t d n m (f .1) (g .1)
+
+-- a line whose number isn't given doesn't hold
+pub passed-over : {P : Type 0} {k : ℕ} (t : List Line) (d n : ℕ) → (n ≡ k → ⊥) → First (line k P ∷ t) d n → (P → ⊥) × First t d n
+passed-over t d n h (inl f) = absurd (h (f .1))
+passed-over t d n h (inr f) = f
+
+-- the number given lies where all the numbers of the table lie
+abbrev pub Inside : ℕ → ℕ → List Line → ℕ → Type 0
+Inside lo hi [] d = (lo ≤ d) × (d ≤ hi)
+Inside lo hi (line k P ∷ t) d = (lo ≤ k) × (k ≤ hi) × Inside lo hi t d
+
+pub first-inside : (lo hi : ℕ) (t : List Line) (d n : ℕ) → Inside lo hi t d → First t d n → (lo ≤ n) × (n ≤ hi)
+first-inside lo hi [] d n i f = (omega (arith, i .0, f), omega (arith, i .1, f))
+first-inside lo hi (line k P ∷ t) d n i (inl f) = (omega (arith, i .0, f .1), omega (arith, i .1, f .1))
+first-inside lo hi (line k P ∷ t) d n i (inr f) = first-inside lo hi t d n (i .2) (f .1)

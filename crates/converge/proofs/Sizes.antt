@@ -1,13 +1,12 @@
 -- The size of a double, and the clamp: what the comparisons of the code say of a value, by the kinds of double. Assumes nothing.
 use mathlib.Core.Path.{_≡_, refl, sym, ap, subst}
-use mathlib.Core.Bool.{Bool, true, false}
-use Prim.Native.Nat.{ℕ, zero, suc, _+_, _*_, _^_, _<_, _≤_}
+use mathlib.Core.Bool.{true, false}
+use Prim.Native.Nat.{zero, suc, _+_, _*_, _^_, _<_, _≤_}
 use native.Mathlib.Omega.{arith}
 use native.Mathlib.Nat.{mul-pos}
-use lib.Dec.{T, eqb}
+use lib.Dec.{T, eqb, eqb→eq}
 use lib.IntN.{ℤ, pos, negsuc}
 use lib.Pow.{pow-lt}
-use lib.Dec.{eqb→eq}
 use lib.Ieee.{Float, nan, inf, fin, binary64, ofBits, up, down, neg, lt, le, eq, fits}
 use lib.Ieee.Fits.{up-pos, down-pos}
 use borrow.Author.Tests.{ltb-true, ltb-false, eqb-true, lt-ltb, eq-eqb}

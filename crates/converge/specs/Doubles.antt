@@ -1,5 +1,5 @@
 -- The decimals that the rules of a step set against doubles, each as the bits of the double nearest to it, and the size of a double.
-use mathlib.Core.Bool.{Bool, true, false, cond}
+use mathlib.Core.Bool.{Bool, false, cond}
 use lib.Ieee.{Float, nan, inf, fin, binary64, ofBits, neg, lt, le}
 
 -- 0.0

@@ -4,7 +4,7 @@ use mathlib.Core.Bool.{cond}
 use mathlib.Core.List.{List, [], _∷_, map}
 use Prim.Native.Nat.{ℕ}
 use lib.Dec.{eqb}
-use lib.ListN.{length, getD}
+use lib.ListN.{length}
 use lib.Ieee.{Float}
 use Rattle.converge.specs.Answer.{Answer, refused, answerOf}
 use Rattle.converge.specs.Row.{Stepped, stepped, recordsOf}
@@ -16,6 +16,7 @@ use Rattle.converge.specs.declared.Step.{Step}
 abbrev pub valueStepped : Float → Float → History → ℕ → ℕ → Float → ℕ → Stepped
 valueStepped x y past = stepped (x ∷ []) (y ∷ []) (past ∷ [])
 
+-- What it returns: the answer, and x, record and count as they stand after it.
 pub record ValueStep (s : Stepped) (r : Step) : Type 0 where
   pub verdict : answerOf (r .verdict) ≡ s .answer
   pub x : r .x ∷ [] ≡ s .x
@@ -26,7 +27,7 @@ pub record ValueStep (s : Stepped) (r : Step) : Type 0 where
 abbrev pub stayed : Verdict → Float → History → ℕ → Step
 stayed verdict x past count = record { verdict = verdict; x = x; past = past; count = count }
 
--- The records as two rows, of x and of y: rows of unequal length are 30.
+-- A step's answer, and all that is lent as it stands after it, with the records as two rows, of x and of y.
 pub record Rows : Type 0 where
   pub answer : Answer
   pub x : List Float
@@ -43,15 +44,17 @@ rowsOf s = record {
   count = s .count;
 }
 
+-- The step with the records that the two rows make. Where their lengths differ, that is 30: rows of unequal length.
 unfoldable pub rowsStepped : List Float → List Float → List Float → List Float → ℕ → ℕ → Float → ℕ → Rows
 rowsStepped x y pastX pastY count method tolerance limit =
     cond (eqb (length pastX) (length pastY))
     (rowsOf (stepped x y (recordsOf pastX pastY) count method tolerance limit))
     (record { answer = refused 30; x = x; pastX = pastX; pastY = pastY; count = count })
 
-pub record RowStep (s : Rows) (r : Verdict) (xs xs′ ys′ : List Float) (n : ℕ) : Type 0 where
+-- What it returns, and what stands in each lent row and in the count at exit.
+pub record RowStep (s : Rows) (r : Verdict) (x′ pastX′ pastY′ : List Float) (count′ : ℕ) : Type 0 where
   pub verdict : answerOf r ≡ s .answer
-  pub x : xs ≡ s .x
-  pub pastX : xs′ ≡ s .pastX
-  pub pastY : ys′ ≡ s .pastY
-  pub count : n ≡ s .count
+  pub x : x′ ≡ s .x
+  pub pastX : pastX′ ≡ s .pastX
+  pub pastY : pastY′ ≡ s .pastY
+  pub count : count′ ≡ s .count

@@ -1,4 +1,5 @@
-// Convergence steps for one torn stream of 1 to 16 values: successive substitution and bounded Wegstein, in doubles.
+// Convergence steps for one torn stream of 1 to 16 values: successive substitution and bounded Wegstein, in doubles,
+// with one rounding for each operation in the order written. First one value, then a row of them.
 ghost use mathlib.Core.Path.{_≡_};
 ghost use mathlib.Core.Bool.{true};
 ghost use mathlib.Core.List.{[], _∷_};
@@ -170,7 +171,7 @@ fn limit_wrong(limit: u32, method: u32) -> bool
     method != 2
 }
 
-// 34 for one record: whether the count is over the limit, or counts and the record has a value that isn't fit.
+// 34, of one value: whether the count is over the limit, or is over 0 and the record has a value that isn't fit.
 fn record_wrong(past: History, count: u16, limit: u32) -> bool
     ensures { λ r. ⌜ r ≡ recordsWrong (past ∷ []) count limit ⌝ }
 {
@@ -292,7 +293,7 @@ fn all_fit(row: &[f64]) -> bool
     true
 }
 
-// Whether every record of two rows is.
+// Whether every record has both its values so; the records stand in two rows of one length.
 fn all_fit_records(past_x: &[f64], past_y: &[f64]) -> bool
     requires { ⌜ length (now «past_x») ≡ length (now «past_y») ⌝ }
     ensures { λ r. ⌜ r ≡ usableRecords (recordsOf (now («past_x» .entry)) (now («past_y» .entry))) ⌝ }
@@ -345,7 +346,7 @@ fn largest_gap(x: &[f64], y: &[f64]) -> f64
     top
 }
 
-// 34: whether the count is over the limit, or counts and some record has a value that isn't fit.
+// 34, of a row: whether the count is over the limit, or is over 0 and some record has a value that isn't fit.
 fn records_wrong(past_x: &[f64], past_y: &[f64], count: u16, limit: u32) -> bool
     requires { ⌜ length (now «past_x») ≡ length (now «past_y») ⌝ }
     ensures { λ r. ⌜ r ≡ recordsWrong (recordsOf (now («past_x» .entry)) (now («past_y» .entry))) count limit ⌝ }

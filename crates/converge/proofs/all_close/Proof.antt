@@ -37,9 +37,16 @@ is-close-requires c κs = search needs
 
 returns : tie.Need-returns Inv-loop μ-loop
 returns c =
-    let a = c .before .before .before .before .before .before .before .before .args in
-    let l = c .before .before .before .before .before .loop in
-    simp (l .inv .1, close-left (a .x .now) (a .y .now) (l .i) (a .tolerance) (omega arith) (omega arith), ← c .before .is-close .ensures, not-true (c .before .is-close .result) (c .if1 .taken))
+    let h = c .before .before .before .before .before in
+    let l = h .loop in
+    let a = h .before .before .before .args in
+    let f = c .before .is-close in
+    simp (
+      l .inv .1,
+      close-left (a .x .now) (a .y .now) (l .i) (a .tolerance) (omega arith) (omega arith),
+      ← f .ensures,
+      not-true (f .result) (c .if1 .taken),
+    )
 
 add-i : tie.Need-add-i Inv-loop μ-loop
 add-i c = omega arith
@@ -49,12 +56,25 @@ loop-less c = omega arith
 
 loop-again : tie.Need-loop-again Inv-loop μ-loop
 loop-again c =
-    let a = c .before .before .before .before .before .before .before .before .args in
-    let l = c .before .before .before .before .before .loop in
-    (omega arith, simp (l .inv .1, close-left (a .x .now) (a .y .now) (l .i) (a .tolerance) (omega arith) (omega arith), ← c .before .is-close .ensures, not-false (c .before .is-close .result) (c .if1 .left)))
+    let h = c .before .before .before .before .before in
+    let l = h .loop in
+    let a = h .before .before .before .args in
+    let f = c .before .is-close in (
+      omega arith,
+      simp (
+        l .inv .1,
+        close-left (a .x .now) (a .y .now) (l .i) (a .tolerance) (omega arith) (omega arith),
+        ← f .ensures,
+        not-false (f .result) (c .if1 .left),
+      ),
+    )
 
 returns-2 : tie.Need-returns-2 Inv-loop μ-loop
-returns-2 c = simp (c .before .loop .inv .1, close-end (c .before .before .before .before .args .x .now) (c .before .before .before .before .args .y .now) (c .before .loop .i) (c .before .before .before .before .args .tolerance) (c .loop-test .left))
+returns-2 c =
+    let h = c .before in
+    let l = h .loop in
+    let a = h .before .before .before .args in
+    simp (l .inv .1, close-end (a .x .now) (a .y .now) (l .i) (a .tolerance) (c .loop-test .left))
 
 pub all-close-spec : {M : Type 1} → statement M
 all-close-spec =

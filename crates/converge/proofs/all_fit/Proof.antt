@@ -30,9 +30,11 @@ fit-requires c κs = search needs
 
 returns : tie.Need-returns Inv-loop μ-loop
 returns c =
-    let a = c .before .before .before .before .before .before .args in
-    let l = c .before .before .before .before .loop in
-    simp (l .inv .1, usable-left (a .row .now) (l .i) (c .before .before .before .loop-test .taken), ← c .before .fit .ensures, not-true (c .before .fit .result) (c .if1 .taken))
+    let h = c .before .before .before .before in
+    let l = h .loop in
+    let a = h .before .before .args in
+    let f = c .before .fit in
+    simp (l .inv .1, usable-left (a .row .now) (l .i) (omega arith), ← f .ensures, not-true (f .result) (c .if1 .taken))
 
 add-i : tie.Need-add-i Inv-loop μ-loop
 add-i c = omega arith
@@ -42,12 +44,18 @@ loop-less c = omega arith
 
 loop-again : tie.Need-loop-again Inv-loop μ-loop
 loop-again c =
-    let a = c .before .before .before .before .before .before .args in
-    let l = c .before .before .before .before .loop in
-    (omega arith, simp (l .inv .1, usable-left (a .row .now) (l .i) (c .before .before .before .loop-test .taken), ← c .before .fit .ensures, not-false (c .before .fit .result) (c .if1 .left)))
+    let h = c .before .before .before .before in
+    let l = h .loop in
+    let a = h .before .before .args in
+    let f = c .before .fit in
+    (omega arith, simp (l .inv .1, usable-left (a .row .now) (l .i) (omega arith), ← f .ensures, not-false (f .result) (c .if1 .left)))
 
 returns-2 : tie.Need-returns-2 Inv-loop μ-loop
-returns-2 c = simp (c .before .loop .inv .1, usable-end (c .before .before .before .args .row .now) (c .before .loop .i) (c .loop-test .left))
+returns-2 c =
+    let h = c .before in
+    let l = h .loop in
+    let a = h .before .before .args in
+    simp (l .inv .1, usable-end (a .row .now) (l .i) (c .loop-test .left))
 
 pub all-fit-spec : {M : Type 1} → statement M
 all-fit-spec =

@@ -12,7 +12,8 @@ use Rattle.converge.proofs.all_fit_records.Tie as tie
 
 abbrev Inv-loop : tie.InvT-loop
 Inv-loop past-x past-y i₀ i =
-    (i ≤ length past-x) × (usableRecords (recordsOf past-x past-y) ≡ usableRecords (recordsOf (drop i past-x) (drop i past-y)))
+    (i ≤ length past-x)
+    × (usableRecords (recordsOf past-x past-y) ≡ usableRecords (recordsOf (drop i past-x) (drop i past-y)))
 
 abbrev μ-loop : tie.MeasureT-loop
 μ-loop past-x past-y i₀ i = length past-x - i
@@ -37,9 +38,16 @@ fit-record-requires c κs = search needs
 
 returns : tie.Need-returns Inv-loop μ-loop
 returns c =
-    let a = c .before .before .before .before .before .before .before .before .args in
-    let l = c .before .before .before .before .before .loop in
-    simp (l .inv .1, usable-records-left (a .past-x .now) (a .past-y .now) (l .i) (omega arith) (omega arith), ← c .before .fit-record .ensures, not-true (c .before .fit-record .result) (c .if1 .taken))
+    let h = c .before .before .before .before .before in
+    let l = h .loop in
+    let a = h .before .before .before .args in
+    let f = c .before .fit-record in
+    simp (
+      l .inv .1,
+      usable-records-left (a .past-x .now) (a .past-y .now) (l .i) (omega arith) (omega arith),
+      ← f .ensures,
+      not-true (f .result) (c .if1 .taken),
+    )
 
 add-i : tie.Need-add-i Inv-loop μ-loop
 add-i c = omega arith
@@ -49,12 +57,25 @@ loop-less c = omega arith
 
 loop-again : tie.Need-loop-again Inv-loop μ-loop
 loop-again c =
-    let a = c .before .before .before .before .before .before .before .before .args in
-    let l = c .before .before .before .before .before .loop in
-    (omega arith, simp (l .inv .1, usable-records-left (a .past-x .now) (a .past-y .now) (l .i) (omega arith) (omega arith), ← c .before .fit-record .ensures, not-false (c .before .fit-record .result) (c .if1 .left)))
+    let h = c .before .before .before .before .before in
+    let l = h .loop in
+    let a = h .before .before .before .args in
+    let f = c .before .fit-record in (
+      omega arith,
+      simp (
+        l .inv .1,
+        usable-records-left (a .past-x .now) (a .past-y .now) (l .i) (omega arith) (omega arith),
+        ← f .ensures,
+        not-false (f .result) (c .if1 .left),
+      ),
+    )
 
 returns-2 : tie.Need-returns-2 Inv-loop μ-loop
-returns-2 c = simp (c .before .loop .inv .1, records-end (c .before .before .before .before .args .past-x .now) (c .before .before .before .before .args .past-y .now) (c .before .loop .i) (c .loop-test .left))
+returns-2 c =
+    let h = c .before in
+    let l = h .loop in
+    let a = h .before .before .before .args in
+    simp (l .inv .1, records-end (a .past-x .now) (a .past-y .now) (l .i) (c .loop-test .left))
 
 pub all-fit-records-spec : {M : Type 1} → statement M
 all-fit-records-spec =

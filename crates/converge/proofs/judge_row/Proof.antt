@@ -17,14 +17,20 @@ returns c = simp (← c .before .all-close .ensures, c .if1 .taken, ← c .befor
 
 returns-2 : tie.Need-returns-2
 unfolding judged
-returns-2 c = simp (← c .before .before .all-close .ensures, c .before .if1 .left, eq-eqb _ _ (c .if2 .taken), ← c .before .before .before .largest-gap .ensures)
+returns-2 c =
+    let t1 = c .before in
+    simp (← t1 .before .all-close .ensures, t1 .if1 .left, eq-eqb _ _ (c .if2 .taken), ← t1 .before .before .largest-gap .ensures)
 
 stray-or-move-requires : tie.Need-stray-or-move-requires
 stray-or-move-requires c κs = search needs
 
 returns-3 : tie.Need-returns-3
 unfolding judged
-returns-3 c = simp (← c .before .before .before .all-close .ensures, c .before .before .if1 .left, ne-eqb _ _ (c .before .if2 .left), ← c .before .before .before .before .largest-gap .ensures) (c .stray-or-move .ensures)
+returns-3 c =
+    let t2 = c .before in
+    let t1 = t2 .before in
+    simp (← t1 .before .all-close .ensures, t1 .if1 .left, ne-eqb _ _ (t2 .if2 .left), ← t1 .before .before .largest-gap .ensures)
+    (c .stray-or-move .ensures)
 
 pub judge-row-spec : {M : Type 1} → statement M
 judge-row-spec =

@@ -22,7 +22,8 @@ stay-requires c κs = search needs
 returns : tie.Need-returns
 unfolding after judged allClose largestOf largestFrom
 returns c =
-    simp (c .stay .ensures, and-true, ← c .before .before .is-close .ensures, c .before .if1 .taken, ← c .before .before .before .gap .ensures)
+    let t1 = c .before in
+    simp (c .stay .ensures, and-true, ← t1 .before .is-close .ensures, t1 .if1 .taken, ← t1 .before .before .gap .ensures)
     (record { verdict = refl; x = refl; past = refl; count = refl })
 
 stay-requires-2 : tie.Need-stay-requires-2
@@ -31,7 +32,9 @@ stay-requires-2 c κs = search needs
 returns-2 : tie.Need-returns-2
 unfolding after judged allClose largestOf largestFrom
 returns-2 c =
-    simp (c .stay2 .ensures, and-true, ← c .before .before .before .is-close .ensures, c .before .before .if1 .left, eq-eqb _ _ (c .before .if2 .taken), ← c .before .before .before .before .gap .ensures)
+    let t2 = c .before in
+    let t1 = t2 .before in
+    simp (c .stay2 .ensures, and-true, ← t1 .before .is-close .ensures, t1 .if1 .left, eq-eqb _ _ (t2 .if2 .taken), ← t1 .before .before .gap .ensures)
     (record { verdict = refl; x = refl; past = refl; count = refl })
 
 next-value-requires : tie.Need-next-value-requires
@@ -46,13 +49,36 @@ stay-requires-3 c κs = search needs
 returns-3 : tie.Need-returns-3
 unfolding after judged allClose nextsOf strayOr
 returns-3 c =
-    simp (c .stay3 .ensures, and-true, ← c .before .before .before .before .before .before .is-close .ensures, c .before .before .before .before .before .if1 .left, ne-eqb _ _ (c .before .before .before .before .if2 .left), ← c .before .before .before .next-value .ensures, ← c .before .before .is-beyond .ensures, c .before .if3 .taken)
+    let t3 = c .before in
+    let t2 = t3 .before .before .before in
+    let t1 = t2 .before in
+    simp (
+      c .stay3 .ensures,
+      and-true,
+      ← t1 .before .is-close .ensures,
+      t1 .if1 .left,
+      ne-eqb _ _ (t2 .if2 .left),
+      ← t3 .before .before .next-value .ensures,
+      ← t3 .before .is-beyond .ensures,
+      t3 .if3 .taken,
+    )
     (record { verdict = refl; x = refl; past = refl; count = refl })
 
 returns-4 : tie.Need-returns-4
 unfolding after judged allClose largestOf largestFrom nextsOf strayOr recordsOf
 returns-4 c =
-    simp (and-true, ← c .before .before .before .before .before .is-close .ensures, c .before .before .before .before .if1 .left, ne-eqb _ _ (c .before .before .before .if2 .left), ← c .before .before .next-value .ensures, ← c .before .is-beyond .ensures, c .if3 .left, ← c .before .before .before .before .before .before .gap .ensures)
+    let t2 = c .before .before .before in
+    let t1 = t2 .before in
+    simp (
+      and-true,
+      ← t1 .before .is-close .ensures,
+      t1 .if1 .left,
+      ne-eqb _ _ (t2 .if2 .left),
+      ← c .before .before .next-value .ensures,
+      ← c .before .is-beyond .ensures,
+      c .if3 .left,
+      ← t1 .before .before .gap .ensures,
+    )
     (record { verdict = refl; x = refl; past = refl; count = refl })
 
 pub judge-value-spec : {M : Type 1} → statement M

@@ -1,5 +1,5 @@
 -- `converge::largest_gap` meets its contract: the largest so far, and what is left of the two rows. Assumes nothing.
-use mathlib.Core.Path.{_≡_, refl, _∙_}
+use mathlib.Core.Path.{_≡_}
 use Prim.Native.Nat.{_≤_, _-_}
 use lib.ListN.{length, drop}
 use Rattle.converge.specs.Row.{largestFrom, largestOf}
@@ -55,12 +55,24 @@ loop-less c = omega arith
 
 loop-again : tie.Need-loop-again Inv-loop μ-loop
 loop-again c =
-    let a = c .before .before .before .before .before .before .before .before .before .before .before .args in
-    let l = c .before .before .before .before .before .loop in
-    (omega arith, simp (l .inv .1, largest-left (a .x .now) (a .y .now) (l .k) (l .top) (omega arith) (omega arith), ← c .before .gap2 .ensures, ← c .larger-of .ensures))
+    let h = c .before .before .before .before .before in
+    let l = h .loop in
+    let a = h .before .before .before .before .before .before .args in (
+      omega arith,
+      simp (
+        l .inv .1,
+        largest-left (a .x .now) (a .y .now) (l .k) (l .top) (omega arith) (omega arith),
+        ← c .before .gap2 .ensures,
+        ← c .larger-of .ensures,
+      ),
+    )
 
 returns : tie.Need-returns Inv-loop μ-loop
-returns c = simp (c .before .loop .inv .1, largest-end (c .before .before .before .before .before .before .before .args .x .now) (c .before .before .before .before .before .before .before .args .y .now) (c .before .loop .k) (c .before .loop .top) (c .loop-test .left))
+returns c =
+    let h = c .before in
+    let l = h .loop in
+    let a = h .before .before .before .before .before .before .args in
+    simp (l .inv .1, largest-end (a .x .now) (a .y .now) (l .k) (l .top) (c .loop-test .left))
 
 pub largest-gap-spec : {M : Type 1} → statement M
 largest-gap-spec =

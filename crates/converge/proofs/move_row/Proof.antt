@@ -1,6 +1,6 @@
 -- `converge::move_row` meets its contract: below i the three rows are rewritten, and from i on they are as they were. Assumes nothing.
 use mathlib.Core.Path.{_≡_, refl, sym, _∙_}
-use Prim.Native.Nat.{_≤_, _-_}
+use Prim.Native.Nat.{_-_}
 use native.Mathlib.Nat.{le-refl}
 use lib.ListN.{length}
 use lib.Ieee.{nan}
@@ -77,13 +77,16 @@ loop-less c = omega arith
 
 loop-again : tie.Need-loop-again Inv-loop μ-loop
 loop-again c =
-    let a = c .before .before .before .before .before .before .before .before .before .before .before .args in
-    let l = c .before .before .before .before .before .before .loop in
+    let h = c .before .before .before .before .before .before in
+    let l = h .loop in
+    let a = h .before .before .before .before .before .args in
     let i = l .i in
-    let h = l .inv in
-    let e = simp (h .0 .above i (le-refl i), h .1 .above i (le-refl i), h .2 .above i (le-refl i)) at (c .next-value .ensures) in
+    let h0 = l .inv .0 in
+    let h1 = l .inv .1 in
+    let h2 = l .inv .2 in
+    let e = simp (h0 .above i (le-refl i), h1 .above i (le-refl i), h2 .above i (le-refl i)) at (c .next-value .ensures) in
     let n = nexts-at (a .x .now) (a .y .now) (a .past-x .now) (a .past-y .now) i (a .count) (a .method) (omega arith) (omega arith) (omega arith) (omega arith) in
-    (half-more (h .0) _ (omega arith) (e ∙ sym n), half-more (h .1) _ (omega arith) (h .0 .above i (le-refl i)), half-more (h .2) _ (omega arith) refl)
+    (half-more h0 _ (omega arith) (e ∙ sym n), half-more h1 _ (omega arith) (h0 .above i (le-refl i)), half-more h2 _ (omega arith) refl)
 
 same-length : tie.Need-same-length Inv-loop μ-loop
 same-length c = c .before .loop .inv .0 .same
@@ -96,10 +99,13 @@ same-length-3 c = c .before .loop .inv .2 .same
 
 returns : tie.Need-returns Inv-loop μ-loop
 returns c =
-    let a = c .before .before .before .before .before .before .args in
-    let h = c .before .loop .inv in
-    let r : length (recordsOf (a .past-x .now) (a .past-y .now)) ≡ length (a .past-x .now) = records-length _ _ (omega arith) in
-    (half-all (h .0) (nexts-length _ _ _ _ _ (omega arith) (omega arith)) (omega arith), (half-all (h .1) (omega arith) (omega arith), half-all (h .2) (omega arith) (omega arith)))
+    let h = c .before in
+    let l = h .loop in
+    let a = h .before .before .before .before .before .args in
+    let r : length (recordsOf (a .past-x .now) (a .past-y .now)) ≡ length (a .past-x .now) = records-length _ _ (omega arith) in (
+      half-all (l .inv .0) (nexts-length _ _ _ _ _ (omega arith) (omega arith)) (omega arith),
+      (half-all (l .inv .1) (omega arith) (omega arith), half-all (l .inv .2) (omega arith) (omega arith)),
+    )
 
 pub move-row-spec : {M : Type 1} → statement M
 move-row-spec =

@@ -1,7 +1,7 @@
 -- `converge::next_value` meets its contract: each way out is one case of `nextOf`. Assumes nothing.
-use borrow.Author.Needs.{needs}
 use borrow.Author.Tests.{eq-eqb, ne-eqb}
 use Rattle.converge.specs.Value.{nextOf}
+use borrow.Author.Needs.{needs}
 use Rattle.converge.proofs.next_value.Statement.{statement}
 use Rattle.converge.proofs.next_value.Tie as tie
 
@@ -19,16 +19,14 @@ factor-requires c κs = search needs
 returns-3 : tie.Need-returns-3
 unfolding nextOf
 returns-3 c =
-    let m = ne-eqb _ _ (c .before .before .before .if1 .left) in
-    let n = ne-eqb _ _ (c .before .before .if2 .left) in
-    simp (m, n, ← c .before .factor .ensures .0, c .if3 .taken)
+    let t2 = c .before .before in
+    simp (ne-eqb _ _ (t2 .before .if1 .left), ne-eqb _ _ (t2 .if2 .left), ← c .before .factor .ensures .0, c .if3 .taken)
 
 returns-4 : tie.Need-returns-4
 unfolding nextOf
 returns-4 c =
-    let m = ne-eqb _ _ (c .before .before .before .if1 .left) in
-    let n = ne-eqb _ _ (c .before .before .if2 .left) in
-    simp (m, n, ← c .before .factor .ensures .0, c .if3 .left)
+    let t2 = c .before .before in
+    simp (ne-eqb _ _ (t2 .before .if1 .left), ne-eqb _ _ (t2 .if2 .left), ← c .before .factor .ensures .0, c .if3 .left)
 
 pub next-value-spec : {M : Type 1} → statement M
 next-value-spec = tie.close (tie.spec returns returns-2 factor-requires returns-3 returns-4)

@@ -11,8 +11,9 @@ rows-wrong-requires c κs = search needs
 returns : tie.Need-returns
 unfolding refusalOf valuesWrong
 returns c =
-    let a = c .before .before .before .before .before .before .args in
-    simp (records-length (a .past-x .now) (a .past-y .now) (c .before .before .before .before .before .before .pre), ← c .before .rows-wrong .ensures, c .if1 .taken)
+    let t1 = c in
+    let s = t1 .before .before .before .before .before .before in
+    simp (records-length (s .args .past-x .now) (s .args .past-y .now) (s .pre), ← t1 .before .rows-wrong .ensures, t1 .if1 .taken)
 
 tolerance-wrong-requires : tie.Need-tolerance-wrong-requires
 tolerance-wrong-requires c κs = search needs
@@ -20,8 +21,16 @@ tolerance-wrong-requires c κs = search needs
 returns-2 : tie.Need-returns-2
 unfolding refusalOf valuesWrong
 returns-2 c =
-    let a = c .before .before .before .before .before .before .before .before .args in
-    simp (records-length (a .past-x .now) (a .past-y .now) (c .before .before .before .before .before .before .before .before .pre), ← c .before .before .before .rows-wrong .ensures, c .before .before .if1 .left, ← c .before .tolerance-wrong .ensures, c .if2 .taken)
+    let t2 = c in
+    let t1 = t2 .before .before in
+    let s = t1 .before .before .before .before .before .before in
+    simp (
+      records-length (s .args .past-x .now) (s .args .past-y .now) (s .pre),
+      ← t1 .before .rows-wrong .ensures,
+      t1 .if1 .left,
+      ← t2 .before .tolerance-wrong .ensures,
+      t2 .if2 .taken,
+    )
 
 limit-wrong-requires : tie.Need-limit-wrong-requires
 limit-wrong-requires c κs = search needs
@@ -29,8 +38,19 @@ limit-wrong-requires c κs = search needs
 returns-3 : tie.Need-returns-3
 unfolding refusalOf valuesWrong
 returns-3 c =
-    let a = c .before .before .before .before .before .before .before .before .before .before .args in
-    simp (records-length (a .past-x .now) (a .past-y .now) (c .before .before .before .before .before .before .before .before .before .before .pre), ← c .before .before .before .before .before .rows-wrong .ensures, c .before .before .before .before .if1 .left, ← c .before .before .before .tolerance-wrong .ensures, c .before .before .if2 .left, ← c .before .limit-wrong .ensures, c .if3 .taken)
+    let t3 = c in
+    let t2 = t3 .before .before in
+    let t1 = t2 .before .before in
+    let s = t1 .before .before .before .before .before .before in
+    simp (
+      records-length (s .args .past-x .now) (s .args .past-y .now) (s .pre),
+      ← t1 .before .rows-wrong .ensures,
+      t1 .if1 .left,
+      ← t2 .before .tolerance-wrong .ensures,
+      t2 .if2 .left,
+      ← t3 .before .limit-wrong .ensures,
+      t3 .if3 .taken,
+    )
 
 all-fit-requires : tie.Need-all-fit-requires
 all-fit-requires c κs = search needs
@@ -38,8 +58,22 @@ all-fit-requires c κs = search needs
 returns-4 : tie.Need-returns-4
 unfolding refusalOf valuesWrong
 returns-4 c =
-    let a = c .before .before .before .before .before .before .before .before .before .before .before .before .args in
-    simp (records-length (a .past-x .now) (a .past-y .now) (c .before .before .before .before .before .before .before .before .before .before .before .before .pre), ← c .before .before .before .before .before .before .before .rows-wrong .ensures, c .before .before .before .before .before .before .if1 .left, ← c .before .before .before .before .before .tolerance-wrong .ensures, c .before .before .before .before .if2 .left, ← c .before .before .before .limit-wrong .ensures, c .before .before .if3 .left, ← c .before .all-fit .ensures, c .if4 .taken)
+    let t4 = c in
+    let t3 = t4 .before .before in
+    let t2 = t3 .before .before in
+    let t1 = t2 .before .before in
+    let s = t1 .before .before .before .before .before .before in
+    simp (
+      records-length (s .args .past-x .now) (s .args .past-y .now) (s .pre),
+      ← t1 .before .rows-wrong .ensures,
+      t1 .if1 .left,
+      ← t2 .before .tolerance-wrong .ensures,
+      t2 .if2 .left,
+      ← t3 .before .limit-wrong .ensures,
+      t3 .if3 .left,
+      ← t4 .before .all-fit .ensures,
+      t4 .if4 .taken,
+    )
 
 all-fit-requires-2 : tie.Need-all-fit-requires-2
 all-fit-requires-2 c κs = search needs
@@ -47,8 +81,25 @@ all-fit-requires-2 c κs = search needs
 returns-5 : tie.Need-returns-5
 unfolding refusalOf valuesWrong
 returns-5 c =
-    let a = c .before .before .before .before .before .before .before .before .before .before .before .before .before .before .args in
-    simp (records-length (a .past-x .now) (a .past-y .now) (c .before .before .before .before .before .before .before .before .before .before .before .before .before .before .pre), ← c .before .before .before .before .before .before .before .before .before .rows-wrong .ensures, c .before .before .before .before .before .before .before .before .if1 .left, ← c .before .before .before .before .before .before .before .tolerance-wrong .ensures, c .before .before .before .before .before .before .if2 .left, ← c .before .before .before .before .before .limit-wrong .ensures, c .before .before .before .before .if3 .left, ← c .before .before .before .all-fit .ensures, c .before .before .if4 .left, ← c .before .all-fit2 .ensures, c .if5 .taken)
+    let t5 = c in
+    let t4 = t5 .before .before in
+    let t3 = t4 .before .before in
+    let t2 = t3 .before .before in
+    let t1 = t2 .before .before in
+    let s = t1 .before .before .before .before .before .before in
+    simp (
+      records-length (s .args .past-x .now) (s .args .past-y .now) (s .pre),
+      ← t1 .before .rows-wrong .ensures,
+      t1 .if1 .left,
+      ← t2 .before .tolerance-wrong .ensures,
+      t2 .if2 .left,
+      ← t3 .before .limit-wrong .ensures,
+      t3 .if3 .left,
+      ← t4 .before .all-fit .ensures,
+      t4 .if4 .left,
+      ← t5 .before .all-fit2 .ensures,
+      t5 .if5 .taken,
+    )
 
 records-wrong-requires : tie.Need-records-wrong-requires
 records-wrong-requires c κs = search needs
@@ -56,14 +107,54 @@ records-wrong-requires c κs = search needs
 returns-6 : tie.Need-returns-6
 unfolding refusalOf valuesWrong
 returns-6 c =
-    let a = c .before .before .before .before .before .before .before .before .before .before .before .before .before .before .before .before .args in
-    simp (records-length (a .past-x .now) (a .past-y .now) (c .before .before .before .before .before .before .before .before .before .before .before .before .before .before .before .before .pre), ← c .before .before .before .before .before .before .before .before .before .before .before .rows-wrong .ensures, c .before .before .before .before .before .before .before .before .before .before .if1 .left, ← c .before .before .before .before .before .before .before .before .before .tolerance-wrong .ensures, c .before .before .before .before .before .before .before .before .if2 .left, ← c .before .before .before .before .before .before .before .limit-wrong .ensures, c .before .before .before .before .before .before .if3 .left, ← c .before .before .before .before .before .all-fit .ensures, c .before .before .before .before .if4 .left, ← c .before .before .before .all-fit2 .ensures, c .before .before .if5 .left, ← c .before .records-wrong .ensures, c .if6 .taken)
+    let t6 = c in
+    let t5 = t6 .before .before in
+    let t4 = t5 .before .before in
+    let t3 = t4 .before .before in
+    let t2 = t3 .before .before in
+    let t1 = t2 .before .before in
+    let s = t1 .before .before .before .before .before .before in
+    simp (
+      records-length (s .args .past-x .now) (s .args .past-y .now) (s .pre),
+      ← t1 .before .rows-wrong .ensures,
+      t1 .if1 .left,
+      ← t2 .before .tolerance-wrong .ensures,
+      t2 .if2 .left,
+      ← t3 .before .limit-wrong .ensures,
+      t3 .if3 .left,
+      ← t4 .before .all-fit .ensures,
+      t4 .if4 .left,
+      ← t5 .before .all-fit2 .ensures,
+      t5 .if5 .left,
+      ← t6 .before .records-wrong .ensures,
+      t6 .if6 .taken,
+    )
 
 returns-7 : tie.Need-returns-7
 unfolding refusalOf valuesWrong
 returns-7 c =
-    let a = c .before .before .before .before .before .before .before .before .before .before .before .before .before .before .before .before .args in
-    simp (records-length (a .past-x .now) (a .past-y .now) (c .before .before .before .before .before .before .before .before .before .before .before .before .before .before .before .before .pre), ← c .before .before .before .before .before .before .before .before .before .before .before .rows-wrong .ensures, c .before .before .before .before .before .before .before .before .before .before .if1 .left, ← c .before .before .before .before .before .before .before .before .before .tolerance-wrong .ensures, c .before .before .before .before .before .before .before .before .if2 .left, ← c .before .before .before .before .before .before .before .limit-wrong .ensures, c .before .before .before .before .before .before .if3 .left, ← c .before .before .before .before .before .all-fit .ensures, c .before .before .before .before .if4 .left, ← c .before .before .before .all-fit2 .ensures, c .before .before .if5 .left, ← c .before .records-wrong .ensures, c .if6 .left)
+    let t6 = c in
+    let t5 = t6 .before .before in
+    let t4 = t5 .before .before in
+    let t3 = t4 .before .before in
+    let t2 = t3 .before .before in
+    let t1 = t2 .before .before in
+    let s = t1 .before .before .before .before .before .before in
+    simp (
+      records-length (s .args .past-x .now) (s .args .past-y .now) (s .pre),
+      ← t1 .before .rows-wrong .ensures,
+      t1 .if1 .left,
+      ← t2 .before .tolerance-wrong .ensures,
+      t2 .if2 .left,
+      ← t3 .before .limit-wrong .ensures,
+      t3 .if3 .left,
+      ← t4 .before .all-fit .ensures,
+      t4 .if4 .left,
+      ← t5 .before .all-fit2 .ensures,
+      t5 .if5 .left,
+      ← t6 .before .records-wrong .ensures,
+      t6 .if6 .left,
+    )
 
 pub refuse-row-spec : {M : Type 1} → statement M
 refuse-row-spec =

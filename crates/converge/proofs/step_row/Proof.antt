@@ -25,16 +25,24 @@ enum-known-v-4 c = search needs
 
 move-row-requires : tie.Need-move-row-requires
 move-row-requires c κs =
-    let a = c .before .before .before .before .before .before .before .before .before .before .before .before .before .before .before .args in
-    let g = c .before .before .before .before .v4 .given in
-    let m = rows-moved (a .x .now) (a .y .now) (a .past-x .now) (a .past-y .now) (a .count .now) (a .method) (a .tolerance) (a .limit) (g .0 .0) (ap answerOf (sym (g .1)) ∙ c .before .before .before .before .before .before .answer-row .ensures) in
+    let h = c .before .before .before .before in
+    let g = h .v4 .given in
+    let f = h .before .before in
+    let s = f .before .before .before .before .before .before .before .before .before in
+    let a = s .args in
+    let m = rows-moved (a .x .now) (a .y .now) (a .past-x .now) (a .past-y .now) (a .count .now) (a .method) (a .tolerance) (a .limit) (g .0 .0)
+    (ap answerOf (sym (g .1)) ∙ f .answer-row .ensures) in
     (m .0, m .1, m .2)
 
 add-count : tie.Need-add-count
 add-count c =
-    let a = c .before .before .before .before .before .before .before .before .before .before .before .before .before .before .before .before .before .before .before .before .before .before .args in
-    let g = c .before .before .before .before .before .before .before .before .before .before .before .v4 .given in
-    let m = rows-moved (a .x .now) (a .y .now) (a .past-x .now) (a .past-y .now) (a .count .now) (a .method) (a .tolerance) (a .limit) (g .0 .0) (ap answerOf (sym (g .1)) ∙ c .before .before .before .before .before .before .before .before .before .before .before .before .before .answer-row .ensures) in
+    let h = c .before .before .before .before .before .before .before .before .before .before .before in
+    let g = h .v4 .given in
+    let f = h .before .before in
+    let s = f .before .before .before .before .before .before .before .before .before in
+    let a = s .args in
+    let m = rows-moved (a .x .now) (a .y .now) (a .past-x .now) (a .past-y .now) (a .count .now) (a .method) (a .tolerance) (a .limit) (g .0 .0)
+    (ap answerOf (sym (g .1)) ∙ f .answer-row .ensures) in
     omega (arith, m .3)
 
 enum-known-v-5 : tie.Need-enum-known-v-5
@@ -51,9 +59,12 @@ same-length-3 c = search needs
 
 returns : tie.Need-returns
 returns c =
-    let a = c .before .before .before .before .before .before .before .before .before .before .before .before .args in
     let g = c .before .v .given in
-    rows-kept (a .x .now) (a .y .now) (a .past-x .now) (a .past-y .now) (a .count .now) (a .method) (a .tolerance) (a .limit) (Settled (g .0 .0)) (ap answerOf (sym (g .1)) ∙ c .before .before .before .answer-row .ensures) refl
+    let f = c .before .before .before in
+    let s = f .before .before .before .before .before .before .before .before .before in
+    let a = s .args in
+    rows-kept (a .x .now) (a .y .now) (a .past-x .now) (a .past-y .now) (a .count .now) (a .method) (a .tolerance) (a .limit) (Settled (g .0 .0))
+    (ap answerOf (sym (g .1)) ∙ f .answer-row .ensures) refl
 
 same-length-4 : tie.Need-same-length-4
 same-length-4 c = search needs
@@ -66,9 +77,12 @@ same-length-6 c = search needs
 
 returns-2 : tie.Need-returns-2
 returns-2 c =
-    let a = c .before .before .before .before .before .before .before .before .before .before .before .before .args in
     let g = c .before .v2 .given in
-    rows-kept (a .x .now) (a .y .now) (a .past-x .now) (a .past-y .now) (a .count .now) (a .method) (a .tolerance) (a .limit) (Spent (g .0 .0)) (ap answerOf (sym (g .1)) ∙ c .before .before .before .answer-row .ensures) refl
+    let f = c .before .before .before in
+    let s = f .before .before .before .before .before .before .before .before .before in
+    let a = s .args in
+    rows-kept (a .x .now) (a .y .now) (a .past-x .now) (a .past-y .now) (a .count .now) (a .method) (a .tolerance) (a .limit) (Spent (g .0 .0))
+    (ap answerOf (sym (g .1)) ∙ f .answer-row .ensures) refl
 
 same-length-7 : tie.Need-same-length-7
 same-length-7 c = search needs
@@ -81,9 +95,12 @@ same-length-9 c = search needs
 
 returns-3 : tie.Need-returns-3
 returns-3 c =
-    let a = c .before .before .before .before .before .before .before .before .before .before .before .before .args in
     let g = c .before .v3 .given in
-    rows-kept (a .x .now) (a .y .now) (a .past-x .now) (a .past-y .now) (a .count .now) (a .method) (a .tolerance) (a .limit) (Strayed (g .0 .0)) (ap answerOf (sym (g .1)) ∙ c .before .before .before .answer-row .ensures) refl
+    let f = c .before .before .before in
+    let s = f .before .before .before .before .before .before .before .before .before in
+    let a = s .args in
+    rows-kept (a .x .now) (a .y .now) (a .past-x .now) (a .past-y .now) (a .count .now) (a .method) (a .tolerance) (a .limit) (Strayed (g .0 .0))
+    (ap answerOf (sym (g .1)) ∙ f .answer-row .ensures) refl
 
 same-length-10 : tie.Need-same-length-10
 same-length-10 c = search needs
@@ -96,9 +113,13 @@ same-length-12 c = search needs
 
 returns-4 : tie.Need-returns-4
 returns-4 c =
-    let a = c .before .before .before .before .before .before .before .before .before .before .before .before .before .before .before .before .before .before .before .before .before .before .args in
-    let g = c .before .before .before .before .before .before .before .before .before .before .before .v4 .given in
-    let m = rows-moved (a .x .now) (a .y .now) (a .past-x .now) (a .past-y .now) (a .count .now) (a .method) (a .tolerance) (a .limit) (g .0 .0) (ap answerOf (sym (g .1)) ∙ c .before .before .before .before .before .before .before .before .before .before .before .before .before .answer-row .ensures) in
+    let h = c .before .before .before .before .before .before .before .before .before .before .before in
+    let g = h .v4 .given in
+    let f = h .before .before in
+    let s = f .before .before .before .before .before .before .before .before .before in
+    let a = s .args in
+    let m = rows-moved (a .x .now) (a .y .now) (a .past-x .now) (a .past-y .now) (a .count .now) (a .method) (a .tolerance) (a .limit) (g .0 .0)
+    (ap answerOf (sym (g .1)) ∙ f .answer-row .ensures) in
     let k = m .4 in
     let e = c .before .before .before .before .before .before .move-row .ensures in
     record { verdict = k .verdict; x = e .0 ∙ k .x; pastX = e .1 .0 ∙ k .pastX; pastY = e .1 .1 ∙ k .pastY; count = k .count }
@@ -114,9 +135,12 @@ same-length-15 c = search needs
 
 returns-5 : tie.Need-returns-5
 returns-5 c =
-    let a = c .before .before .before .before .before .before .before .before .before .before .before .before .args in
     let g = c .before .v5 .given in
-    rows-kept (a .x .now) (a .y .now) (a .past-x .now) (a .past-y .now) (a .count .now) (a .method) (a .tolerance) (a .limit) (Refused (g .0 .0)) (ap answerOf (sym (g .1)) ∙ c .before .before .before .answer-row .ensures) refl
+    let f = c .before .before .before in
+    let s = f .before .before .before .before .before .before .before .before .before in
+    let a = s .args in
+    rows-kept (a .x .now) (a .y .now) (a .past-x .now) (a .past-y .now) (a .count .now) (a .method) (a .tolerance) (a .limit) (Refused (g .0 .0))
+    (ap answerOf (sym (g .1)) ∙ f .answer-row .ensures) refl
 
 pub step-row-spec : {M : Type 1} → statement M
 step-row-spec =

@@ -17,18 +17,22 @@ stay-requires c κs = search needs
 returns : tie.Need-returns
 unfolding stepped after verdictOf
 returns c =
-    simp (c .stay .ensures, ← c .before .before .refuse-value .ensures, ne-eqb _ _ (c .before .if1 .taken))
+    let t1 = c .before in
+    simp (c .stay .ensures, ← t1 .before .refuse-value .ensures, ne-eqb _ _ (t1 .if1 .taken))
     (record { verdict = refl; x = refl; past = refl; count = refl })
 
 judge-value-requires : tie.Need-judge-value-requires
 judge-value-requires c κs =
-    let s = c .before .before .args in
-    let k = accepted (s .x ∷ []) (s .y ∷ []) (s .past ∷ []) (s .count) (s .method) (s .tolerance) (s .limit) (sym (c .before .refuse-value .ensures) ∙ c .if1 .left) in
+    let a = c .before .before .args in
+    let z = sym (c .before .refuse-value .ensures) ∙ c .if1 .left in
+    let k = accepted (a .x ∷ []) (a .y ∷ []) (a .past ∷ []) (a .count) (a .method) (a .tolerance) (a .limit) z in
     (k .within, k .most)
 
 returns-2 : tie.Need-returns-2
 unfolding stepped verdictOf
-returns-2 c = simp (← c .before .before .refuse-value .ensures, eq-eqb _ _ (c .before .if1 .left)) (c .judge-value .ensures)
+returns-2 c =
+    let t1 = c .before in
+    simp (← t1 .before .refuse-value .ensures, eq-eqb _ _ (t1 .if1 .left)) (c .judge-value .ensures)
 
 pub step-value-spec : {M : Type 1} → statement M
 step-value-spec =

@@ -54,9 +54,17 @@ is-beyond-requires c κs = search needs
 
 returns : tie.Need-returns Inv-loop μ-loop
 returns c =
-    let a = c .before .before .before .before .before .before .before .before .before .before .before .before .before .args in
-    let l = c .before .before .before .before .before .before .before .before .loop in
-    simp (l .inv .1, stray-left (a .x .now) (a .y .now) (a .past-x .now) (a .past-y .now) (l .i) (a .count) (a .method) (moved (a .top)) (omega arith) (omega arith) (omega arith) (omega arith), ← c .before .before .next-value .ensures, ← c .before .is-beyond .ensures, c .if1 .taken)
+    let h = c .before .before .before .before .before .before .before .before in
+    let l = h .loop in
+    let a = h .before .before .before .before .before .args in
+    simp (
+      l .inv .1,
+      stray-left (a .x .now) (a .y .now) (a .past-x .now) (a .past-y .now) (l .i) (a .count) (a .method) (moved (a .top))
+          (omega arith) (omega arith) (omega arith) (omega arith),
+      ← c .before .before .next-value .ensures,
+      ← c .before .is-beyond .ensures,
+      c .if1 .taken,
+    )
 
 add-i : tie.Need-add-i Inv-loop μ-loop
 add-i c = omega arith
@@ -66,14 +74,24 @@ loop-less c = omega arith
 
 loop-again : tie.Need-loop-again Inv-loop μ-loop
 loop-again c =
-    let a = c .before .before .before .before .before .before .before .before .before .before .before .before .before .args in
-    let l = c .before .before .before .before .before .before .before .before .loop in
-    (omega arith, simp (l .inv .1, stray-left (a .x .now) (a .y .now) (a .past-x .now) (a .past-y .now) (l .i) (a .count) (a .method) (moved (a .top)) (omega arith) (omega arith) (omega arith) (omega arith), ← c .before .before .next-value .ensures, ← c .before .is-beyond .ensures, c .if1 .left))
+    let h = c .before .before .before .before .before .before .before .before in
+    let l = h .loop in
+    let a = h .before .before .before .before .before .args in (
+      omega arith,
+      simp (
+        l .inv .1,
+        stray-left (a .x .now) (a .y .now) (a .past-x .now) (a .past-y .now) (l .i) (a .count) (a .method) (moved (a .top))
+            (omega arith) (omega arith) (omega arith) (omega arith),
+        ← c .before .before .next-value .ensures,
+        ← c .before .is-beyond .ensures,
+        c .if1 .left,
+      ),
+    )
 
 returns-2 : tie.Need-returns-2 Inv-loop μ-loop
 returns-2 c =
-    let a = c .before .before .before .before .before .before .args in
     let l = c .before .loop in
+    let a = c .before .before .before .before .before .before .args in
     simp (l .inv .1, stray-end (a .x .now) (a .y .now) (a .past-x .now) (a .past-y .now) (l .i) (a .count) (a .method) (moved (a .top)) (c .loop-test .left))
 
 pub stray-or-move-spec : {M : Type 1} → statement M
