@@ -92,6 +92,7 @@ judged x y past count method tolerance limit =
     (cond (eqb count limit) (spent (largestOf x y))
     (strayOr (nextsOf x y past count method) (moved (largestOf x y))))
 
+-- Refused by its number, and changing nothing; else judged.
 unfoldable pub verdictOf : List Float → List Float → List History → ℕ → ℕ → Float → ℕ → Answer
 verdictOf x y past count method tolerance limit =
     cond (eqb (refusalOf x y past count method tolerance limit) 0)
@@ -116,6 +117,7 @@ after x y past count method a =
     (kept (nextsOf x y past count method) (recordsOf x y) (count + 1) a)
     (kept x past count a)
 
+-- The step: its verdict, and all that is lent after it.
 unfoldable pub stepped : List Float → List Float → List History → ℕ → ℕ → Float → ℕ → Stepped
 stepped x y past count method tolerance limit =
     after x y past count method (verdictOf x y past count method tolerance limit)
