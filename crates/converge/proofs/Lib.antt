@@ -1,0 +1,15 @@
+pub mod Flags
+pub mod Sizes
+pub mod Left
+pub mod Half
+pub mod Rows
+pub mod Says
+pub mod Refusals
+pub mod Accepted
+pub mod Verdicts
+pub mod Lent
+pub mod Finite
+pub mod Largest
+pub mod Sound
+pub mod Bound
+pub mod Settled

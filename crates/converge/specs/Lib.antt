@@ -1,0 +1,5 @@
+pub mod Doubles
+pub mod Answer
+pub mod Value
+pub mod Row
+pub mod Promise
