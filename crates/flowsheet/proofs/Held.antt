@@ -49,6 +49,10 @@ unfolding heldUnits
 held-placed u = rw (length-take (u .count) (u .numbers)) (omega arith)
 
 -- where the count is within the places, that many are held, each as its place has it
+pub held-length : (u : Units) → u .count ≤ length (u .numbers) → length (heldUnits u) ≡ u .count
+unfolding heldUnits
+held-length u h = length-take-le (u .count) (u .numbers) h
+
 pub held-streams-length : (s : Streams) → s .count ≤ length (s .records) → length (heldStreams s) ≡ s .count
 unfolding heldStreams
 held-streams-length s h = length-take-le (s .count) (s .records) h

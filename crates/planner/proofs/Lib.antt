@@ -1,2 +1,3 @@
 -- The laws of the plan that the crates above cite.
 mod Turns
+pub mod Append

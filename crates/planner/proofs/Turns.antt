@@ -1,17 +1,17 @@
 -- One turn of each loop: what a loop over a list has done so far, and what is left of it. Assumes nothing.
-use mathlib.Core.Path.{_≡_, refl, sym, ap, _∙_}
 use mathlib.Core.List.{List, [], _∷_, _++_, map}
+use mathlib.Core.Path.{_≡_, refl}
 use Prim.Native.Nat.{ℕ, zero, suc, _+_, _*_, _^_, _≤_, _<_}
-use native.Mathlib.Omega.{arith}
 use native.Mathlib.Numerals.{add-one}
+use native.Mathlib.Omega.{arith}
 use lib.Bits.{bitOr}
-use lib.ListN.{length, getD, set, take, drop, length-set, drop-of-length-le}
+use lib.ListN.{length, getD, take, drop, length-set, drop-of-length-le}
 use lib.Seq.{take-suc, drop-cons, getD-take}
-use Rattle.tearing.specs.Row.{total}
 use Rattle.flowsheet.specs.Sheet.{noStream, placeOf}
-use Rattle.flowsheet.specs.declared.Stream.{Stream}
 use Rattle.flowsheet.specs.declared.Place.{Place}
 use Rattle.flowsheet.specs.declared.Place.the-variants.{At, Nowhere}
+use Rattle.flowsheet.specs.declared.Stream.{Stream}
+use Rattle.tearing.specs.Row.{total}
 use Rattle.planner.specs.Links.{linkAt, withLink, withLinks}
 use Rattle.planner.specs.Plan.{unitsIn, chargeAt, charged, chargedAll}
 

@@ -1,14 +1,14 @@
 -- Demand 2: the plan is the one the rules fix, in unit numbers. A reader who believes rules 1 to 4 believes this file: `Rules us ss plan` says of
 -- a plan for the units us and the streams ss what the rules say of it. That the planner's plan is of this kind, and is the only one that is, is in
 -- proofs/Demand2.antt.
-use mathlib.Core.Path.{_≡_}
-use mathlib.Core.Logic.{_↔_}
 use mathlib.Core.Bool.{cond}
 use mathlib.Core.List.{List, [], _∷_, _++_, List·Memᴰ}
+use mathlib.Core.Logic.{_↔_}
+use mathlib.Core.Path.{_≡_}
 use Prim.Native.Nat.{ℕ, _+_, _≤_, _<_}
 use Rattle.blocks.specs.Links.{SameBlock}
-use Rattle.tearing.specs.Order.{Perm, Lex}
 use Rattle.flowsheet.specs.declared.Stream.{Stream}
+use Rattle.tearing.specs.Order.{Perm, Lex}
 use Rattle.planner.specs.Plan.{BlockPlan, isTorn}
 use Rattle.planner.specs.Tables.{orderTable}
 

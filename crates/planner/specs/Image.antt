@@ -2,15 +2,11 @@
 -- tables follow in that order without gaps." All of it is 16-bit numbers, so the image is the bytes of a list of numbers.
 use mathlib.Core.List.{List, [], _∷_, _++_}
 use Prim.Native.Nat.{ℕ, _+_, _*_, _/_}
-use lib.ListN.{length, take, drop}
-use Rattle.words.specs.Words.{bytesOf}
+use lib.ListN.{length, drop}
 use Rattle.flowsheet.specs.Written.{flat}
-use Rattle.planner.specs.declared.Numbers.{Numbers}
+use Rattle.words.specs.Words.{bytesOf}
+use Rattle.planner.specs.Tables.{heldNumbers}
 use Rattle.planner.specs.declared.Plan.{Plan}
-
--- the numbers that a table holds
-unfoldable pub heldNumbers : Numbers → List ℕ
-heldNumbers t = take (t .count) (t .numbers)
 
 -- how many bytes the image of a plan with so many numbers in its tables has
 abbrev pub imageLength : ℕ → ℕ → ℕ → ℕ

@@ -5,9 +5,9 @@ use Prim.Native.Nat.{ℕ}
 use lib.ListN.{replicate}
 use Rattle.blocks.specs.Links.{linked}
 use Rattle.flowsheet.specs.Sheet.{placeOf}
-use Rattle.flowsheet.specs.declared.Stream.{Stream}
 use Rattle.flowsheet.specs.declared.Place.{Place}
 use Rattle.flowsheet.specs.declared.Place.the-variants.{At, Nowhere}
+use Rattle.flowsheet.specs.declared.Stream.{Stream}
 
 -- the table t with the link between two places more
 abbrev pub linkAt : Place → Place → List ℕ → List ℕ

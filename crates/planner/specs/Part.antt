@@ -1,7 +1,7 @@
 -- The part of the order row or of the torn row that a screen asks for. "The block's record says which part. It is handed that part of one of
 -- the two rows: of the order row for units, of the torn row for streams. A place whose record doesn't lie wholly in the block row gives the
 -- empty front part of the order row; so does a span that runs beyond its row."
-use mathlib.Core.Bool.{Bool, true, false, cond}
+use mathlib.Core.Bool.{cond}
 use mathlib.Core.List.{List, []}
 use Prim.Native.Nat.{ℕ, _+_, _*_}
 use lib.Dec.{leb}

@@ -1,18 +1,18 @@
 -- The plan of a flowsheet: rules 1 to 4, in the order in which the planner goes. A block is the list of its units' numbers.
-use mathlib.Core.Bool.{Bool, true, false, cond, not, _||_}
-use mathlib.Core.List.{List, [], _∷_, _++_, map}
+use mathlib.Core.Bool.{Bool, false, cond, not, _||_}
+use mathlib.Core.List.{List, [], _∷_, map}
 use Prim.Native.Nat.{ℕ, _+_, _*_}
 use lib.Dec.{ltb}
 use lib.ListN.{length, getD, set, replicate}
-use Rattle.blocks.specs.Reach.{reachOf}
 use Rattle.blocks.specs.Blocks.{membersOf}
 use Rattle.blocks.specs.Order.{orderOf}
-use Rattle.tearing.specs.Best.{best}
-use Rattle.tearing.specs.Row.{weights}
+use Rattle.blocks.specs.Reach.{reachOf}
 use Rattle.flowsheet.specs.Sheet.{placeOf}
-use Rattle.flowsheet.specs.declared.Stream.{Stream}
 use Rattle.flowsheet.specs.declared.Place.{Place}
 use Rattle.flowsheet.specs.declared.Place.the-variants.{At, Nowhere}
+use Rattle.flowsheet.specs.declared.Stream.{Stream}
+use Rattle.tearing.specs.Best.{best}
+use Rattle.tearing.specs.Row.{weights}
 use Rattle.planner.specs.Links.{linksOf}
 
 -- a block of the plan: its units in order, and its torn streams rising

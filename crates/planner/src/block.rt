@@ -1,4 +1,5 @@
 // One block: its units, the weights between them, the order that tears least, and its torn streams.
+use crate::Numbers;
 use flowsheet::Place;
 use flowsheet::Stream;
 use flowsheet::Streams;
@@ -8,7 +9,10 @@ ghost use Prim.Native.Nat.{ℕ, _+_, _*_, _^_, _≤_, _<_};
 ghost use lib.ListN.{length, getD};
 ghost use Rattle.tearing.specs.Row.{total};
 ghost use Rattle.flowsheet.specs.Sheet.{unitsOf, heldUnits, heldStreams};
-ghost use Rattle.planner.specs.Plan.{unitsIn, charged, rowOf, orderedOf, isTorn};
+ghost use mathlib.Core.List.{[], _∷_};
+ghost use Rattle.words.specs.Words.{cleared};
+ghost use Rattle.planner.specs.Plan.{unitsIn, charged, rowOf, orderedOf, isTorn, tornOf};
+ghost use Rattle.planner.specs.Tables.{heldNumbers, Tidy, appended};
 
 // The units in these places, in the places' order.
 pub fn units_in(units: Units, places: &[u8]) -> Units
@@ -70,4 +74,94 @@ fn row_of(block: Units, streams: Streams) -> [u32; 144]
         i += 1;
     }
     row
+}
+
+// The block's units in the order that tears least and, of those, comes first.
+pub fn ordered(block: Units, streams: Streams, work: &mut [u8]) -> Units
+    requires { ⌜ (block .count ≤ 12) × (streams .count ≤ 256) × (length (streams .records) ≡ 256) × (65536 ≤ length (now work)) ⌝ }
+    ensures units { λ r. ⌜ r ≡ unitsOf (orderedOf (heldUnits block) (heldStreams streams)) ⌝ }
+    ensures work { λ _. ⌜ now (work .exit) ≡ cleared (now (work .entry)) (4 * 2 ^ block .count) ⌝ }
+{
+    let count = block.count;
+    let row = row_of(block, streams);
+    let order = tearing::order(&row, count, work);
+    units_in(block, &order[..count])
+}
+
+// Whether a stream is torn in this order of a block's units: both its ends are in the block, and its source doesn't stand
+// before its receiver.
+fn is_torn(order: Units, stream: Stream) -> bool
+    ensures { λ r. ⌜ r ≡ isTorn (heldUnits order) stream ⌝ }
+{
+    let from = flowsheet::place_of(order, stream.source);
+    let to = flowsheet::place_of(order, stream.receiver);
+    let Place::At(i) = from else {
+        return false;
+    };
+    let Place::At(j) = to else {
+        return false;
+    };
+    if i < j {
+        return false;
+    }
+    true
+}
+
+// The table with the block's torn streams after those that it holds.
+pub fn with_torn(table: Numbers, order: Units, streams: Streams) -> Numbers
+    requires { ⌜ Tidy table × (streams .count ≤ 256) × (length (streams .records) ≡ 256) ⌝ }
+    requires { ⌜ length (heldNumbers table) + length (tornOf (heldUnits order) (heldStreams streams)) ≤ 256 ⌝ }
+    ensures { λ r. ⌜ r ≡ appended table (tornOf (heldUnits order) (heldStreams streams)) ⌝ }
+{
+    let streams_held = streams.count;
+    let records = streams.records;
+    let mut numbers = table.numbers;
+    let mut count = table.count;
+    let mut i: usize = 0;
+    while i < streams_held {
+        let stream = records[i];
+        if is_torn(order, stream) {
+            numbers[count] = stream.number;
+            count += 1;
+        }
+        i += 1;
+    }
+    Numbers { count, numbers }
+}
+
+// The table with these units after those that it holds.
+pub fn with_units(table: Numbers, units: Units) -> Numbers
+    requires { ⌜ Tidy table × (units .count ≤ 64) × (length (heldNumbers table) + units .count ≤ 256) ⌝ }
+    ensures { λ r. ⌜ r ≡ appended table (heldUnits units) ⌝ }
+{
+    let held = units.count;
+    let from = units.numbers;
+    let start = table.count;
+    let mut numbers = table.numbers;
+    let mut i: usize = 0;
+    while i < held {
+        numbers[start + i] = from[i];
+        i += 1;
+    }
+    Numbers {
+        count: start + held,
+        numbers,
+    }
+}
+
+// The table with a block's record after those that it holds.
+pub fn with_record(table: Numbers, first: u16, units: u16, earlier: u16, torn: u16) -> Numbers
+    requires { ⌜ Tidy table × (length (heldNumbers table) + 4 ≤ 256) ⌝ }
+    ensures { λ r. ⌜ r ≡ appended table (first ∷ units ∷ earlier ∷ torn ∷ []) ⌝ }
+{
+    let at = table.count;
+    let mut numbers = table.numbers;
+    numbers[at] = first;
+    numbers[at + 1] = units;
+    numbers[at + 2] = earlier;
+    numbers[at + 3] = torn;
+    Numbers {
+        count: at + 4,
+        numbers,
+    }
 }

@@ -1,5 +1,5 @@
 -- Rows of a fixed length that are filled from the front, and tables of a function. Assumes nothing.
-use mathlib.Core.List.{List, [], _∷_, _++_}
+use mathlib.Core.List.{List, [], _∷_, _++_, append-assoc, append-nil}
 use mathlib.Core.Logic.{⊎-elim}
 use mathlib.Core.Path.{_≡_, refl, sym, ap, _∙_}
 use Prim.Native.Nat.{ℕ, zero, suc, _+_, _-_, _≤_, _<_}
@@ -7,7 +7,7 @@ use native.Mathlib.Nat.{eq-or-lt-of-le, le-of-suc-le-suc}
 use native.Mathlib.Numerals.{add-one}
 use native.Mathlib.Omega.{arith}
 use lib.ListN.{length, getD, set, take, replicate, length-append, length-replicate, List·getD-append}
-use lib.Seq.{take-at, set-append-seam, append-snoc, getD-append-seam}
+use lib.Seq.{sets, take-at, set-append-seam, append-snoc, getD-append-seam}
 use Rattle.words.specs.Rows.{padded, table}
 
 module _ {A : Type 0} where
@@ -26,6 +26,13 @@ module _ {A : Type 0} where
       let e : n - length xs ≡ suc (n - suc (length xs)) = omega arith in
       let f : n - length (xs ++ (v ∷ [])) ≡ n - suc (length xs) = rw length-append (omega arith) in
       rw (e, set-append-seam, f, append-snoc)
+
+  -- so do stores one after the other
+  pub padded-sets : (n : ℕ) (d : A) (xs ys : List A) → length xs + length ys ≤ n → sets (padded n d xs) (length xs) ys ≡ padded n d (xs ++ ys)
+  padded-sets n d xs [] h = rw append-nil
+  padded-sets n d xs (y ∷ ys) h =
+      let e : suc (length xs) ≡ length (xs ++ (y ∷ [])) = rw length-append (omega arith) in
+      rw (padded-more n d xs y (omega arith), e, padded-sets n d (xs ++ (y ∷ [])) ys (rw length-append (omega arith)), append-assoc)
 
   -- what is held is what was put in
   pub take-padded : (n : ℕ) (d : A) (xs : List A) → take (length xs) (padded n d xs) ≡ xs

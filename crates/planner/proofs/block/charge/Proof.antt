@@ -1,95 +1,76 @@
-use Rattle.planner.proofs.Turns.{element-most}
-use Rattle.planner.specs.Plan.{charged}
-use Rattle.flowsheet.proofs.Held.{place-counted}
-use Rattle.tearing.proofs.Total.{total-add}
 use Prim.Native.Nat.{ℕ, _+_, _*_}
-use mathlib.Core.Path.{_≡_, refl, sym, ap, _∙_}
 use native.Mathlib.Omega.{arith}
 use borrow.Author.Needs.{needs}
+use Rattle.flowsheet.proofs.Held.{place-counted}
+use Rattle.tearing.proofs.Total.{total-add}
+use Rattle.planner.specs.Plan.{charged}
+use Rattle.planner.proofs.Turns.{element-most}
 use Rattle.planner.proofs.block.charge.Statement.{statement}
 use Rattle.planner.proofs.block.charge.Tie as tie
-use Rattle.planner.proofs.block.charge.Reads as reads
-use Rattle.planner.proofs.block.charge.Lts as lts
-use Rattle.flowsheet.proofs.place_of.Reads as place-of-reads
-use Rattle.planner.proofs.block.wide.Reads as wide-reads
 
--- src/block.rt:44:9
 place-of-requires : tie.Need-place-of-requires
 place-of-requires c κs = search needs
 
--- src/block.rt:45:9
 place-of-requires-2 : tie.Need-place-of-requires-2
 place-of-requires-2 c κs = search needs
 
--- src/block.rt:46:9
 wide-requires : tie.Need-wide-requires
 wide-requires c κs = search needs
 
--- src/block.rt:47:19
 enum-known-from : tie.Need-enum-known-from
 enum-known-from c = search needs
 
--- src/block.rt:48:9
 enum-told : tie.Need-enum-told
 enum-told c = search needs
 
--- src/block.rt:48:9
 returns : tie.Need-returns
 unfolding charged
 returns c = (simp (← c .before .before .before .before .place-of .ensures, c .enum-told .given .1), omega arith)
 
--- src/block.rt:50:19
 enum-known-to : tie.Need-enum-known-to
 enum-known-to c = search needs
 
--- src/block.rt:51:9
 enum-told-2 : tie.Need-enum-told-2
 enum-told-2 c = search needs
 
--- src/block.rt:51:9
 returns-2 : tie.Need-returns-2
 unfolding charged
 returns-2 c = (simp (← c .before .before .before .before .before .before .before .place-of .ensures, c .before .before .before .from .given .1, ← c .before .before .before .before .before .before .place-of2 .ensures, c .enum-told2 .given .1), omega arith)
 
--- src/block.rt:53:14
 mul-at : tie.Need-mul-at
-mul-at c = 
+mul-at c =
     let a = c .before .before .before .before .before .before .before .before .before .args in
     let from = place-counted (a .block) (a .stream .source) (c .before .before .before .before .from .given .0 .0) (c .before .before .before .before .before .before .before .before .place-of .result) (c .before .before .before .before .before .before .before .before .place-of .ensures) (c .before .before .before .before .from .given .1) in
     let to = place-counted (a .block) (a .stream .receiver) (c .before .to .given .0 .0) (c .before .before .before .before .before .before .before .place-of2 .result) (c .before .before .before .before .before .before .before .place-of2 .ensures) (c .before .to .given .1) in
     let few = c .before .before .before .before .before .before .before .before .before .pre .0 in
     omega arith
 
--- src/block.rt:53:14
 add-at : tie.Need-add-at
-add-at c = 
+add-at c =
     let a = c .before .before .before .before .before .before .before .before .before .args in
     let from = place-counted (a .block) (a .stream .source) (c .before .before .before .before .from .given .0 .0) (c .before .before .before .before .before .before .before .before .place-of .result) (c .before .before .before .before .before .before .before .before .place-of .ensures) (c .before .before .before .before .from .given .1) in
     let to = place-counted (a .block) (a .stream .receiver) (c .before .to .given .0 .0) (c .before .before .before .before .before .before .before .place-of2 .result) (c .before .before .before .before .before .before .before .place-of2 .ensures) (c .before .to .given .1) in
     let few = c .before .before .before .before .before .before .before .before .before .pre .0 in
     omega arith
 
--- src/block.rt:54:15
 mul-row : tie.Need-mul-row
-mul-row c = 
+mul-row c =
     let a = c .before .before .before .before .before .before .before .before .before .args in
     let from = place-counted (a .block) (a .stream .source) (c .before .before .before .before .from .given .0 .0) (c .before .before .before .before .before .before .before .before .place-of .result) (c .before .before .before .before .before .before .before .before .place-of .ensures) (c .before .before .before .before .from .given .1) in
     let to = place-counted (a .block) (a .stream .receiver) (c .before .to .given .0 .0) (c .before .before .before .before .before .before .before .place-of2 .result) (c .before .before .before .before .before .before .before .place-of2 .ensures) (c .before .to .given .1) in
     let few = c .before .before .before .before .before .before .before .before .before .pre .0 in
     omega arith
 
--- src/block.rt:54:15
 element-copy-out-row : tie.Need-element-copy-out-row
-element-copy-out-row c = 
+element-copy-out-row c =
     let a = c .before .before .before .before .before .before .before .before .before .args in
     let from = place-counted (a .block) (a .stream .source) (c .before .before .before .before .from .given .0 .0) (c .before .before .before .before .before .before .before .before .place-of .result) (c .before .before .before .before .before .before .before .before .place-of .ensures) (c .before .before .before .before .from .given .1) in
     let to = place-counted (a .block) (a .stream .receiver) (c .before .to .given .0 .0) (c .before .before .before .before .before .before .before .place-of2 .result) (c .before .before .before .before .before .before .before .place-of2 .ensures) (c .before .to .given .1) in
     let few = c .before .before .before .before .before .before .before .before .before .pre .0 in
     omega arith
 
--- src/block.rt:54:15
 add-row : tie.Need-add-row
-add-row c = 
+add-row c =
     let a = c .before .before .before .before .before .before .before .before .before .before .args in
     let from = place-counted (a .block) (a .stream .source) (c .before .before .before .before .before .from .given .0 .0) (c .before .before .before .before .before .before .before .before .before .place-of .result) (c .before .before .before .before .before .before .before .before .before .place-of .ensures) (c .before .before .before .before .before .from .given .1) in
     let to = place-counted (a .block) (a .stream .receiver) (c .before .before .to .given .0 .0) (c .before .before .before .before .before .before .before .before .place-of2 .result) (c .before .before .before .before .before .before .before .before .place-of2 .ensures) (c .before .before .to .given .1) in
@@ -98,28 +79,25 @@ add-row c =
     let low = element-most (a .row .now) at in
     omega (arith, low, c .before .before .before .before .before .before .before .wide .ensures, c .before .before .before .before .before .before .before .before .before .before .pre)
 
--- src/block.rt:54:5
 mul-row-2 : tie.Need-mul-row-2
-mul-row-2 c = 
+mul-row-2 c =
     let a = c .before .before .before .before .before .before .before .before .before .before .args in
     let from = place-counted (a .block) (a .stream .source) (c .before .before .before .before .before .from .given .0 .0) (c .before .before .before .before .before .before .before .before .before .place-of .result) (c .before .before .before .before .before .before .before .before .before .place-of .ensures) (c .before .before .before .before .before .from .given .1) in
     let to = place-counted (a .block) (a .stream .receiver) (c .before .before .to .given .0 .0) (c .before .before .before .before .before .before .before .before .place-of2 .result) (c .before .before .before .before .before .before .before .before .place-of2 .ensures) (c .before .before .to .given .1) in
     let few = c .before .before .before .before .before .before .before .before .before .before .pre .0 in
     omega arith
 
--- src/block.rt:54:5
 element-write-row : tie.Need-element-write-row
-element-write-row c = 
+element-write-row c =
     let a = c .before .before .before .before .before .before .before .before .before .before .args in
     let from = place-counted (a .block) (a .stream .source) (c .before .before .before .before .before .from .given .0 .0) (c .before .before .before .before .before .before .before .before .before .place-of .result) (c .before .before .before .before .before .before .before .before .before .place-of .ensures) (c .before .before .before .before .before .from .given .1) in
     let to = place-counted (a .block) (a .stream .receiver) (c .before .before .to .given .0 .0) (c .before .before .before .before .before .before .before .before .place-of2 .result) (c .before .before .before .before .before .before .before .before .place-of2 .ensures) (c .before .before .to .given .1) in
     let few = c .before .before .before .before .before .before .before .before .before .before .pre .0 in
     omega arith
 
--- src/block.rt:39:1
 returns-3 : tie.Need-returns-3
 unfolding charged
-returns-3 c = 
+returns-3 c =
     let a = c .before .before .before .before .before .before .before .before .before .before .args in
     let from = place-counted (a .block) (a .stream .source) (c .before .before .before .before .before .from .given .0 .0) (c .before .before .before .before .before .before .before .before .before .place-of .result) (c .before .before .before .before .before .before .before .before .before .place-of .ensures) (c .before .before .before .before .before .from .given .1) in
     let to = place-counted (a .block) (a .stream .receiver) (c .before .before .to .given .0 .0) (c .before .before .before .before .before .before .before .before .place-of2 .result) (c .before .before .before .before .before .before .before .before .place-of2 .ensures) (c .before .before .to .given .1) in

@@ -1,55 +1,42 @@
-use Rattle.flowsheet.specs.Sheet.{heldUnits}
-use Rattle.flowsheet.proofs.Places.{place-found}
-use Rattle.flowsheet.proofs.Held.{held-placed}
-use lib.ListN.{length}
+use mathlib.Core.Path.{_≡_, sym, _∙_}
 use native.Mathlib.Omega.{arith}
-use Rattle.planner.specs.Links.{withLink}
-use mathlib.Core.Path.{_≡_, refl, sym, ap, _∙_}
 use borrow.Author.Needs.{needs}
+use lib.ListN.{length}
+use Rattle.flowsheet.specs.Sheet.{heldUnits}
+use Rattle.flowsheet.proofs.Held.{held-placed}
+use Rattle.flowsheet.proofs.Places.{place-found}
+use Rattle.planner.specs.Links.{withLink}
 use Rattle.planner.proofs.links.add_link.Statement.{statement}
 use Rattle.planner.proofs.links.add_link.Tie as tie
-use Rattle.planner.proofs.links.add_link.Reads as reads
-use Rattle.planner.proofs.links.add_link.Lts as lts
-use Rattle.blocks.proofs.link.Reads as link-reads
-use Rattle.flowsheet.proofs.place_of.Reads as place-of-reads
 
--- src/links.rt:17:9
 place-of-requires : tie.Need-place-of-requires
 place-of-requires c κs = search needs
 
--- src/links.rt:18:9
 place-of-requires-2 : tie.Need-place-of-requires-2
 place-of-requires-2 c κs = search needs
 
--- src/links.rt:19:19
 enum-known-from : tie.Need-enum-known-from
 enum-known-from c = search needs
 
--- src/links.rt:20:9
 enum-told : tie.Need-enum-told
 enum-told c = search needs
 
--- src/links.rt:20:9
 returns : tie.Need-returns
 unfolding withLink
 returns c = simp (← c .before .before .before .place-of .ensures, c .enum-told .given .1)
 
--- src/links.rt:22:19
 enum-known-to : tie.Need-enum-known-to
 enum-known-to c = search needs
 
--- src/links.rt:23:9
 enum-told-2 : tie.Need-enum-told-2
 enum-told-2 c = search needs
 
--- src/links.rt:23:9
 returns-2 : tie.Need-returns-2
 unfolding withLink
 returns-2 c = simp (← c .before .before .before .before .before .before .place-of .ensures, c .before .before .before .from .given .1, ← c .before .before .before .before .before .place-of2 .ensures, c .enum-told2 .given .1)
 
--- src/links.rt:25:5
 link-requires : tie.Need-link-requires
-link-requires c κs = 
+link-requires c κs =
     let a = c .before .before .before .before .before .before .before .before .before .args in
     let long : length (a .units .numbers) ≡ 64 = search needs in
     let held = held-placed (a .units) in
@@ -57,10 +44,9 @@ link-requires c κs =
     let to = place-found (heldUnits (a .units)) (a .stream .receiver) (c .before .before .to .given .0 .0) (sym (c .before .before .before .before .before .before .before .place-of2 .ensures) ∙ c .before .before .to .given .1) in
     (omega (arith, from .0), omega (arith, to .0), c .before .before .before .before .before .before .before .before .before .pre)
 
--- src/links.rt:13:1
 returns-3 : tie.Need-returns-3
 unfolding withLink
-returns-3 c = 
+returns-3 c =
     rw (← c .before .before .before .before .before .before .before .before .before .place-of .ensures, c .before .before .before .before .before .before .from .given .1, ← c .before .before .before .before .before .before .before .before .place-of2 .ensures, c .before .before .before .to .given .1) (c .link .ensures)
 
 pub add-link-spec : {M : Type 1} → statement M

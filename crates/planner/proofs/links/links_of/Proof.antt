@@ -1,22 +1,18 @@
-use Rattle.planner.proofs.Turns.{links-more, links-end, link-length}
-use Rattle.planner.specs.Links.{withLink, withLinks, linksOf}
-use Rattle.flowsheet.specs.declared.Stream.{Stream}
-use Rattle.flowsheet.specs.Sheet.{noStream, heldUnits, heldStreams}
-use lib.Seq.{getD-take}
-use lib.ListN.{length, getD, take, drop, length-take}
 use mathlib.Core.List.{List}
-use Prim.Native.Nat.{ℕ, _+_, _-_, _≤_, _<_}
-use borrow.Author.Needs.{needs}
 use mathlib.Core.Path.{_≡_, refl, sym, ap, _∙_}
+use Prim.Native.Nat.{ℕ, _+_, _-_, _≤_, _<_}
 use native.Mathlib.Omega.{arith}
+use lib.ListN.{length, getD, take, drop, length-take}
+use lib.Seq.{getD-take}
+use Rattle.flowsheet.specs.Sheet.{noStream, heldUnits, heldStreams}
+use Rattle.flowsheet.specs.declared.Stream.{Stream}
+use Rattle.planner.specs.Links.{withLink, withLinks, linksOf}
+use Rattle.planner.proofs.Turns.{links-more, links-end, link-length}
 use Rattle.planner.proofs.links.links_of.Statement.{statement}
 use Rattle.planner.proofs.links.links_of.Tie as tie
-use Rattle.planner.proofs.links.links_of.Reads as reads
-use Rattle.planner.proofs.links.links_of.Lts as lts
-use Rattle.planner.proofs.links.add_link.Reads as add-link-reads
 
 abbrev Inv-loop : tie.InvT-loop
-Inv-loop units count records table₀ i₀ table i = 
+Inv-loop units count records table₀ i₀ table i =
     (i ≤ count)
     × (length table ≡ 64)
     × (length records ≡ 256)
@@ -25,34 +21,27 @@ Inv-loop units count records table₀ i₀ table i =
 abbrev μ-loop : tie.MeasureT-loop
 μ-loop units count records table₀ i₀ table i = count - i
 
--- src/links.rt:37:5
 loop-holds : tie.Need-loop-holds Inv-loop μ-loop
 unfolding linksOf
 loop-holds c = (omega arith, refl, c .before .pre .1, refl)
 
--- src/links.rt:38:22
 mul-stream : tie.Need-mul-stream Inv-loop μ-loop
 mul-stream c = omega arith
 
--- src/links.rt:38:22
 array-copy-out-stream : tie.Need-array-copy-out-stream Inv-loop μ-loop
 array-copy-out-stream c = omega arith
 
--- src/links.rt:39:9
 add-link-requires : tie.Need-add-link-requires Inv-loop μ-loop
 add-link-requires c κs = c .before .before .before .loop .inv .1
 
--- src/links.rt:40:9
 add-i : tie.Need-add-i Inv-loop μ-loop
 add-i c = omega arith
 
--- src/links.rt:37:5
 loop-less : tie.Need-loop-less Inv-loop μ-loop
 loop-less c = omega arith
 
--- src/links.rt:37:5
 loop-again : tie.Need-loop-again Inv-loop μ-loop
-loop-again c = 
+loop-again c =
     let a = c .before .before .before .before .before .before .args in
     let l = c .before .before .before .before .loop in
     let us : List ℕ = heldUnits (a .units) in
@@ -66,10 +55,9 @@ loop-again c =
       ap (λ (t : List ℕ). withLinks us t (drop (l .i + 1) ss)) (new ∙ ap (withLink us (l .table)) (sym e)) ∙ sym (links-more us (l .table) ss (l .i) h) ∙ l .inv .3,
     )
 
--- src/links.rt:29:1
 returns : tie.Need-returns Inv-loop μ-loop
 unfolding heldStreams
-returns c = 
+returns c =
     let a = c .before .before .before .args in
     let l = c .before .loop in
     let us : List ℕ = heldUnits (a .units) in
