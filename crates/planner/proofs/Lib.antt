@@ -1,0 +1,5 @@
+-- The laws of the plan that the crates above cite, and demand 2.
+pub mod Members
+pub mod Found
+pub mod Linked
+pub mod Orders
