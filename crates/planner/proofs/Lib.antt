@@ -3,3 +3,4 @@ pub mod Members
 pub mod Found
 pub mod Linked
 pub mod Orders
+pub mod Parted
