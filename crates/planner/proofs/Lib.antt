@@ -4,3 +4,4 @@ pub mod Found
 pub mod Linked
 pub mod Orders
 pub mod Parted
+pub mod TornStreams

@@ -48,8 +48,8 @@ pub distinct-append : (a b : List ℕ) → Distinct a → Distinct b → ((x : �
 distinct-append [] b h k f = k
 distinct-append (u ∷ a) b h k f = (
   mem-each (λ x. u ≡ x → ⊥) (a ++ b)
-  (λ x p.
-  ⊎-elim (each-mem (λ x. u ≡ x → ⊥) (h .0)) (λ q e. f u (List·Memᴰ·head refl) (Memᴰ·cast e q)) (List·Memᴰ·append-cases a p)),
+      (λ x p.
+      ⊎-elim (each-mem (λ x. u ≡ x → ⊥) (h .0)) (λ q e. f u (List·Memᴰ·head refl) (Memᴰ·cast e q)) (List·Memᴰ·append-cases a p)),
   distinct-append a b (h .1) k (λ x p. f x (List·Memᴰ·tail p)),
 )
 

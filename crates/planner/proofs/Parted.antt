@@ -236,11 +236,10 @@ module _ {us : List ℕ} {ss : List Stream} (good : Good us ss) where
   pub blocks-some : (b : List ℕ) → List·Memᴰ b (blocksOf us ss) → (u : ℕ) × List·Memᴰ u b
   unfolding blockOrder
   blocks-some b m =
-      let r = block-of b m in
-      (
+      let r = block-of b m in (
         getD us (r .0) 0,
         subst (λ (l : List ℕ). List·Memᴰ (getD us (r .0) 0) l) (r .2)
-        (places-block (r .0) (r .0) (order-below (reachIn us ss) (length us) (r .0) (r .1)) (inl refl)),
+            (places-block (r .0) (r .0) (order-below (reachIn us ss) (length us) (r .0) (r .1)) (inl refl)),
       )
 
   -- Each unit is in one of the blocks.
