@@ -45,3 +45,6 @@ place-is l d n i h e =
 abbrev pub placeNumber : Place → ℕ
 placeNumber (At i) = i
 placeNumber Nowhere = 0
+
+pub at-same : {i j : ℕ} → At i ≡ At j → i ≡ j
+at-same e = ap placeNumber e

@@ -21,7 +21,7 @@ use Rattle.flowsheet.proofs.Places.{place-found}
 use Rattle.planner.specs.Links.{linkAt, withLink, withLinks, linksOf}
 use Rattle.planner.specs.Demand2.{Rises, Feeds}
 use Rattle.planner.proofs.Members.{mem-at, at-mem, rises-at, rises-distinct}
-use Rattle.planner.proofs.Found.{found-mem, mem-found, place-is, placeNumber}
+use Rattle.planner.proofs.Found.{found-mem, mem-found, place-is, placeNumber, at-same}
 
 -- ---- in places
 
@@ -32,9 +32,6 @@ Runs us s i j = (placeOf us (s .source) ≡ At i) × (placeOf us (s .receiver) �
 -- some stream of ss does
 abbrev pub Streamed : List ℕ → List Stream → ℕ → ℕ → Type 0
 Streamed us ss i j = (s : Stream) × List·Memᴰ s ss × Runs us s i j
-
-at-same : {i j : ℕ} → At i ≡ At j → i ≡ j
-at-same e = ap placeNumber e
 
 length-at : (p q : Place) (t : List ℕ) → length (linkAt p q t) ≡ length t
 length-at (At i) (At j) t = length-set t i (bitOr (getD t i 0) (2 ^ j))
