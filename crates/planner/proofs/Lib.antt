@@ -5,3 +5,4 @@ pub mod Linked
 pub mod Orders
 pub mod Parted
 pub mod TornStreams
+pub mod Weighed

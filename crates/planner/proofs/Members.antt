@@ -123,3 +123,10 @@ rises-at (x ∷ l) f = more above (rises-at l (λ i j h k. f (suc i) (suc j) (om
   where
     above : (m : ℕ) → List·Memᴰ m l → x < m
     above m p = let r = at-mem 0 p in omega (arith, f 0 (suc (r .0)) (omega arith) (omega (arith, r .1)), r .2)
+
+pub rises-up : {l : List ℕ} → Rises l → (i j : ℕ) → i < j → j < length l → getD l i 0 < getD l j 0
+rises-up flat i j h k = absurd (omega arith)
+rises-up (more {l = l} f r) zero zero h k = absurd (omega arith)
+rises-up (more {l = l} f r) zero (suc j) h k = f (getD l j 0) (mem-at l j 0 (omega arith))
+rises-up (more f r) (suc i) zero h k = absurd (omega arith)
+rises-up (more f r) (suc i) (suc j) h k = rises-up r i j (omega arith) (omega arith)
