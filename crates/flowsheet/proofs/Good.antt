@@ -5,16 +5,20 @@ use mathlib.Core.Path.{_≡_, refl, sym, ap, _∙_}
 use Prim.Native.Nat.{ℕ, zero, suc, _<_}
 use native.Mathlib.Nat.{eq-or-lt-of-le, le-of-suc-le-suc}
 use native.Mathlib.Omega.{arith}
-use lib.ListN.{getD}
+use lib.ListN.{length, getD}
 use Rattle.words.specs.Rows.{table}
-use Rattle.words.proofs.Rows.{length-table, getD-table}
+use Rattle.words.proofs.Rows.{length-table, getD-table, length-padded}
 use Rattle.flowsheet.specs.Exactly.{Numbered, Accepted, streamIn, streamNumberIn}
-use Rattle.flowsheet.specs.Good.{Good}
+use Rattle.flowsheet.specs.Good.{Good, GoodSheet}
 use Rattle.flowsheet.specs.Image.{unitCount, streamCount, unitAt, unitList, streamList, answerOf, readingOf}
-use Rattle.flowsheet.specs.Sheet.{noStream, sheetOf}
+use Rattle.flowsheet.specs.Sheet.{noStream, unitsOf, streamsOf, sheetOf, heldUnits, heldStreams}
+use Rattle.flowsheet.specs.declared.Flowsheet.{Flowsheet}
 use Rattle.flowsheet.specs.declared.Reading.{Reading}
 use Rattle.flowsheet.specs.declared.Stream.{Stream}
+use Rattle.flowsheet.specs.declared.Streams.{Streams}
+use Rattle.flowsheet.specs.declared.Units.{Units}
 use Rattle.flowsheet.proofs.Exact.{is-accepted}
+use Rattle.flowsheet.proofs.Held.{units-count, streams-count, held-units, held-streams}
 use Rattle.flowsheet.proofs.Records.{reading-number, reading-accepted}
 
 -- numbers that are in range and rising, given at each place below n by a function that agrees
@@ -54,6 +58,36 @@ accepted-good l a =
           (λ j k. ap (λ (t : Stream). t .number) (stream j k)) (omega (arith, s)) (a .streams i (omega (arith, s)) .numbered);
       sound = λ i h. rw (stream i (omega (arith, s))) (a .streams i (omega (arith, s)) .sound);
     }
+
+-- a flowsheet of good units and streams is good
+pub sheet-good : (us : List ℕ) (ss : List Stream) → Good us ss → GoodSheet (sheetOf us ss)
+unfolding sheetOf
+sheet-good us ss g =
+    record {
+      good = rw (held-units us, held-streams ss) g;
+      whole = rw (held-units us, held-streams ss);
+    }
+
+-- what is known of its counts and places
+module _ (f : Flowsheet) (g : GoodSheet f) where
+  pub units-whole : f .units ≡ unitsOf (heldUnits (f .units))
+  unfolding sheetOf
+  units-whole = ap (λ (x : Flowsheet). x .units) (g .whole)
+
+  pub streams-whole : f .streams ≡ streamsOf (heldStreams (f .streams))
+  unfolding sheetOf
+  streams-whole = ap (λ (x : Flowsheet). x .streams) (g .whole)
+
+  pub units-held : length (heldUnits (f .units)) ≡ f .units .count
+  units-held = sym (ap (λ (x : Units). x .count) units-whole ∙ units-count (heldUnits (f .units)))
+
+  pub streams-held : length (heldStreams (f .streams)) ≡ f .streams .count
+  streams-held = sym (ap (λ (x : Streams). x .count) streams-whole ∙ streams-count (heldStreams (f .streams)))
+
+  pub records-long : length (f .streams .records) ≡ 256
+  unfolding streamsOf
+  records-long =
+      ap (λ (x : Streams). length (x .records)) streams-whole ∙ length-padded 256 noStream (heldStreams (f .streams)) (g .good .fewStreams)
 
 -- the flowsheet of a reading that refuses nothing
 pub reading-good : (l : List ℕ) → readingOf l .number ≡ 0

@@ -7,13 +7,13 @@ use lib.ListN.{length, getD, length-take}
 use lib.Seq.{length-take-le, getD-take}
 use Rattle.words.proofs.Rows.{take-padded}
 use Rattle.flowsheet.specs.Sheet.{noStream, unitsOf, streamsOf, sheetOf, heldUnits, heldStreams, placeOf}
+use Rattle.flowsheet.specs.declared.Flowsheet.{Flowsheet}
 use Rattle.flowsheet.specs.declared.Place.{Place}
 use Rattle.flowsheet.specs.declared.Place.the-variants.{At}
-use Rattle.flowsheet.specs.declared.Units.{Units}
-use Rattle.flowsheet.specs.declared.Streams.{Streams}
-use Rattle.flowsheet.specs.declared.Flowsheet.{Flowsheet}
-use Rattle.flowsheet.proofs.Places.{place-found}
 use Rattle.flowsheet.specs.declared.Stream.{Stream}
+use Rattle.flowsheet.specs.declared.Streams.{Streams}
+use Rattle.flowsheet.specs.declared.Units.{Units}
+use Rattle.flowsheet.proofs.Places.{place-found}
 
 pub units-count : (us : List ℕ) → unitsOf us .count ≡ length us
 unfolding unitsOf

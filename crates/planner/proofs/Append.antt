@@ -19,6 +19,10 @@ pub held-numbers : (xs : List ℕ) → heldNumbers (numbersOf xs) ≡ xs
 unfolding numbersOf heldNumbers
 held-numbers xs = take-padded 256 0 xs
 
+pub numbers-count : (xs : List ℕ) → numbersOf xs .count ≡ length xs
+unfolding numbersOf
+numbers-count xs = refl
+
 pub tidy-count : (t : Numbers) → Tidy t → t .count ≡ length (heldNumbers t)
 unfolding numbersOf
 tidy-count t e = ap (λ (x : Numbers). x .count) e

@@ -8,3 +8,4 @@ pub mod TornStreams
 pub mod Weighed
 pub mod Append
 mod Turns
+mod Sorting

@@ -5,7 +5,7 @@ use Prim.Native.Nat.{ℕ, zero, suc, _+_, _*_, _^_, _≤_, _<_}
 use native.Mathlib.Numerals.{add-one}
 use native.Mathlib.Omega.{arith}
 use lib.Bits.{bitOr}
-use lib.ListN.{length, getD, take, drop, length-set, drop-of-length-le}
+use lib.ListN.{length, getD, take, drop, length-map, length-set, drop-of-length-le}
 use lib.Seq.{take-suc, drop-cons, getD-take}
 use Rattle.flowsheet.specs.Sheet.{noStream, placeOf}
 use Rattle.flowsheet.specs.declared.Place.{Place}
@@ -71,3 +71,7 @@ unfolding total
 element-most [] i = omega arith
 element-most (x ∷ w) zero = omega arith
 element-most (x ∷ w) (suc i) = omega (arith, element-most w i)
+
+pub units-in-length : (us places : List ℕ) → length (unitsIn us places) ≡ length places
+unfolding unitsIn
+units-in-length us places = length-map places (λ (p : ℕ). getD us p 0)

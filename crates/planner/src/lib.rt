@@ -1,6 +1,7 @@
 // The plan of a flowsheet, its image, and the part of it that a screen asks for.
 mod block;
 mod links;
+mod sheet;
 
 // At most 256 numbers of 16 bits; the places beyond the count are zero.
 pub struct Numbers {
@@ -19,4 +20,10 @@ pub struct Plan {
 pub enum Asked {
     Units,
     Tears,
+}
+
+// What planning a flowsheet answers: 0 and the plan, or the refusal's number and an empty plan.
+pub struct Planned {
+    pub number: u32,
+    pub plan: Plan,
 }
