@@ -6,3 +6,6 @@ pub mod Orders
 pub mod Parted
 pub mod TornStreams
 pub mod Weighed
+pub mod LeastOrder
+pub mod OnlyPlan
+pub mod Demand2
