@@ -56,8 +56,7 @@ stands-lower {order} {u} {v} d b =
     let beyond =
     ap (λ (l : List ℕ). getD l (length (b .front) + suc (k .0)) 0) (b .split)
     ∙ getD-append-add (b .front) (u ∷ b .back) (suc (k .0)) 0
-    ∙ k .2 in
-    (
+    ∙ k .2 in (
       length (b .front),
       length (b .front) + suc (k .0),
       place-is order d u (length (b .front)) (omega (arith, seam)) at,
@@ -171,7 +170,7 @@ streams-rise {ss = ss} good =
       List·getD-map (λ (s : Stream). s .number) ss i noStream,
       List·getD-map (λ (s : Stream). s .number) ss j noStream,
       rising (λ (x : ℕ). getD ss x noStream .number) (length ss) (good .streams) i j h
-      (omega (arith, length-map ss (λ (s : Stream). s .number))),
+          (omega (arith, length-map ss (λ (s : Stream). s .number))),
     ))
 
 -- ---- at most one block tears a stream

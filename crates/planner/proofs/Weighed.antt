@@ -268,7 +268,7 @@ module _ (block : List ℕ) (d : Distinct block) where
       go : ((a : ℕ) × (placeOf block (s .source) ≡ At a)) ⊎ (placeOf block (s .source) ≡ Nowhere)
           → ((b : ℕ) × (placeOf block (s .receiver) ≡ At b)) ⊎ (placeOf block (s .receiver) ≡ Nowhere)
           → torn (λ i j. added block s i j) (upto (length block)) o
-            ≡ cond (tornBetween (placeOf (map unit o) (s .source)) (placeOf (map unit o) (s .receiver))) (s .weight) 0
+          ≡ cond (tornBetween (placeOf (map unit o) (s .source)) (placeOf (map unit o) (s .receiver))) (s .weight) 0
       go (inl a) (inl b) =
           rw (
             a .1,
