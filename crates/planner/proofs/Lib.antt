@@ -8,4 +8,5 @@ pub mod TornStreams
 pub mod Weighed
 pub mod LeastOrder
 pub mod OnlyPlan
+pub mod Inside
 pub mod Demand2
