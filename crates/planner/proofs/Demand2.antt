@@ -1,34 +1,32 @@
 -- Demand 2: the plan keeps rules 1 to 4, its untorn streams run forward, and it is the only plan that keeps the rules. What `blocks` says of
 -- places is said of their units, block by block. Assumes nothing.
-use mathlib.Core.Path.{_≡_, refl, sym, ap, ap₂, _∙_, subst}
-use mathlib.Core.Logic.{_⊎_, inl, inr, ⊎-elim, _↔_}
 use mathlib.Core.Bool.{Bool, true, false}
-use mathlib.Core.List.{List, [], _∷_, _++_, map, append-assoc, List·Memᴰ, List·Memᴰ·head, List·Memᴰ·tail, List·Memᴰ·not-nil, Memᴰ·append-left, Memᴰ·append-right, Memᴰ·cast, Memᴰ·map, Memᴰ·of-map}
-use Prim.Native.Nat.{ℕ, _<_, _≤_}
+use mathlib.Core.List.{List, [], _∷_, _++_, map, append-assoc, List·Memᴰ, List·Memᴰ·tail, Memᴰ·append-left, Memᴰ·append-right, Memᴰ·cast, Memᴰ·map, Memᴰ·of-map}
+use mathlib.Core.Logic.{inl, _↔_}
+use mathlib.Core.Path.{_≡_, refl, sym, ap, ap₂, _∙_, subst}
+use Prim.Native.Nat.{ℕ, _<_}
 use native.Mathlib.Omega.{arith}
-use native.Mathlib.Decide.{decLt}
 use lib.ListN.{length, getD}
 use Rattle.blocks.specs.Links.{Link, SameBlock}
-use Rattle.blocks.specs.Rule4.{Placed as ListedIn, Ready, Next}
-use Rattle.blocks.proofs.Paths.{same-sym, same-trans}
-use Rattle.blocks.proofs.Rounds.{path?}
-use Rattle.blocks.proofs.Free.{same?}
-use Rattle.blocks.proofs.Rule4.{placed-left, placed-last, ready-same, rule4-once, rule4-forward}
-use Rattle.blocks.proofs.OrderOf.{order-below}
-use Rattle.tearing.proofs.Lists.{Distinct, distinct-perm}
+use Rattle.blocks.specs.Rule4.{Placed as ListedIn, Ready}
 use Rattle.flowsheet.specs.Good.{Good}
 use Rattle.flowsheet.specs.declared.Stream.{Stream}
+use Rattle.blocks.proofs.Free.{same?}
+use Rattle.blocks.proofs.OrderOf.{order-below}
+use Rattle.blocks.proofs.Paths.{same-sym, same-trans}
+use Rattle.blocks.proofs.Rounds.{path?}
+use Rattle.blocks.proofs.Rule4.{placed-left, placed-last, ready-same, rule4-once, rule4-forward}
+use Rattle.tearing.proofs.Lists.{Distinct}
+use Rattle.planner.specs.Demand2.{Feeds, StandsBefore, Torn, BlockRules, Fed, Lower, Rules, Forward}
 use Rattle.planner.specs.Links.{linksOf}
-use Rattle.planner.specs.Plan.{BlockPlan, isTorn, orderedOf, blockPlan, reachIn, blockAt, blockOrder, blocksOf, tooLarge, planOf}
+use Rattle.planner.specs.Plan.{BlockPlan, isTorn, blockPlan, reachIn, blockAt, blockOrder, blocksOf, tooLarge, planOf}
 use Rattle.planner.specs.Tables.{orderTable}
-use Rattle.planner.specs.Demand2.{Feeds, StandsBefore, Torn, BlockRules, Placed, Fed, Lower, Rules, Forward}
-use Rattle.planner.proofs.Members.{mem-at, at-mem, mem-split, mem-middle, distinct-once, rises-distinct}
-use Rattle.planner.proofs.Linked.{links-length, links-inside, units-up, link-feeds, feeds-link, same-units, same-places}
-use Rattle.planner.proofs.Orders.{ordered-perm}
-use Rattle.planner.proofs.Parted.{turn, later, plansOf, plans-append, order-append, order-has, order-only, units-plan, plan-mem, mem-plan, blocks-rule4, block-places, places-block, one-place, blocksAt, units-placed, placed-units, plan-units-distinct, plan-distinct, blocks-rise, blocks-known, blocks-some, blocks-all, blocks-small}
-use Rattle.planner.proofs.TornStreams.{torn-is, untorn-stands, streams-rise}
 use Rattle.planner.proofs.LeastOrder.{block-rules}
+use Rattle.planner.proofs.Linked.{links-length, links-inside, units-up, link-feeds, feeds-link, same-units, same-places}
+use Rattle.planner.proofs.Members.{mem-at, at-mem, mem-split, mem-middle, distinct-once}
 use Rattle.planner.proofs.OnlyPlan.{rules-only}
+use Rattle.planner.proofs.Parted.{turn, later, plansOf, plans-append, order-append, order-only, plan-mem, mem-plan, blocks-rule4, block-places, places-block, one-place, blocksAt, units-placed, placed-units, plan-units-distinct, plan-distinct, blocks-rise, blocks-all, blocks-small}
+use Rattle.planner.proofs.TornStreams.{torn-is, untorn-stands, streams-rise}
 
 -- where a carried list is cut, the list is cut there
 map-cut : {A B : Type 0} (f : A → B) (l : List A) (front back : List B) (y : B) → map f l ≡ front ++ (y ∷ back)

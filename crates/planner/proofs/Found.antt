@@ -1,15 +1,14 @@
 -- The place of a number in a list where no number stands twice: the one where it stands. Assumes nothing.
-use mathlib.Core.Path.{_≡_, refl, sym, ap, _∙_}
-use mathlib.Core.Logic.{_⊎_, inl, inr, ⊎-elim}
 use mathlib.Core.List.{List, List·Memᴰ, Memᴰ·cast}
-use Prim.Native.Nat.{ℕ, suc, _<_}
-use native.Mathlib.Omega.{arith}
+use mathlib.Core.Logic.{_⊎_, inl, inr, ⊎-elim}
+use mathlib.Core.Path.{_≡_, sym, ap, _∙_}
+use Prim.Native.Nat.{ℕ, _<_}
 use lib.ListN.{length, getD}
-use Rattle.tearing.proofs.Lists.{Distinct}
 use Rattle.flowsheet.specs.Sheet.{placeOf}
 use Rattle.flowsheet.specs.declared.Place.{Place}
 use Rattle.flowsheet.specs.declared.Place.the-variants.{At, Nowhere}
 use Rattle.flowsheet.proofs.Places.{place-found, place-nowhere, place-cases}
+use Rattle.tearing.proofs.Lists.{Distinct}
 use Rattle.planner.proofs.Members.{mem-at, at-mem, distinct-place}
 
 -- what is found is a member, and a member is found

@@ -1,17 +1,17 @@
 -- A block's plan goes by the streams with both ends in the block alone: no other adds to its weights, and no other is torn in it. Assumes
 -- nothing.
-use mathlib.Core.Path.{_≡_, refl, sym, ap, ap₂, _∙_}
-use mathlib.Core.Logic.{_⊎_, inl, inr, ⊎-elim}
 use mathlib.Core.Bool.{Bool, true, false, cond, _&&_, true≢false}
 use mathlib.Core.List.{List, [], _∷_, _++_, List·Memᴰ}
+use mathlib.Core.Logic.{_⊎_, inl, inr}
+use mathlib.Core.Path.{_≡_, refl, sym, ap, ap₂, _∙_}
 use Prim.Native.Nat.{ℕ}
 use lib.ListN.{replicate}
 use Rattle.flowsheet.specs.Sheet.{placeOf, found}
 use Rattle.flowsheet.specs.declared.Place.{Place}
 use Rattle.flowsheet.specs.declared.Place.the-variants.{At, Nowhere}
 use Rattle.flowsheet.specs.declared.Stream.{Stream}
-use Rattle.planner.specs.Plan.{BlockPlan, chargeAt, charged, chargedAll, rowOf, orderedOf, isTorn, tornOf, blockPlan}
-use Rattle.planner.proofs.Found.{found-mem, mem-found, mem-cases, not-found}
+use Rattle.planner.specs.Plan.{chargeAt, charged, chargedAll, rowOf, orderedOf, isTorn, tornOf, blockPlan}
+use Rattle.planner.proofs.Found.{mem-found, mem-cases, not-found}
 use Rattle.planner.proofs.Orders.{mem-perm, ordered-perm}
 use Rattle.planner.proofs.TornStreams.{torn-source, torn-receiver}
 

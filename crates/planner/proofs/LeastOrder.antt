@@ -1,18 +1,18 @@
 -- Rules 2 and 3, of one block: of all orders of its units none tears less than the block's order, and of those that tear as little it is the
 -- first. What holds of the orders of its places is carried to the orders of its units. Assumes nothing.
-use mathlib.Core.Path.{_≡_, refl, sym, ap, _∙_, subst}
 use mathlib.Core.List.{List, map, List·Memᴰ}
+use mathlib.Core.Path.{_≡_, sym, ap, _∙_, subst}
 use Prim.Native.Nat.{ℕ, _<_, _≤_}
 use native.Mathlib.Omega.{arith}
 use lib.ListN.{length, getD}
+use Rattle.flowsheet.specs.declared.Stream.{Stream}
+use Rattle.tearing.specs.Best.{best}
 use Rattle.tearing.specs.Order.{Perm, upto, torn, Lex}
 use Rattle.tearing.specs.Row.{weights}
-use Rattle.tearing.specs.Best.{best}
-use Rattle.tearing.proofs.Lists.{Distinct, distinct-perm, upto-below}
 use Rattle.tearing.proofs.Chosen.{best-order, best-least, best-first}
-use Rattle.flowsheet.specs.declared.Stream.{Stream}
-use Rattle.planner.specs.Plan.{rowOf, orderedOf, isTorn, tornOf, blockPlan}
-use Rattle.planner.specs.Demand2.{tornWeight, Rises, BlockRules, Torn}
+use Rattle.tearing.proofs.Lists.{Distinct, distinct-perm, upto-below}
+use Rattle.planner.specs.Demand2.{tornWeight, Rises, BlockRules}
+use Rattle.planner.specs.Plan.{rowOf, orderedOf, blockPlan}
 use Rattle.planner.proofs.Members.{each-mem, rises-distinct, rises-up}
 use Rattle.planner.proofs.Orders.{perm-mem, mem-perm, same-members, perm-back, lex-map, block-at, ordered-perm}
 use Rattle.planner.proofs.TornStreams.{torn-is, torn-listed, torn-rises}

@@ -1,27 +1,27 @@
 -- The table of links is exact, in places and in unit numbers: a link is a stream between two units, so paths and blocks of places are
 -- paths and blocks of units. Assumes nothing.
-use mathlib.Core.Path.{_≡_, refl, sym, ap, _∙_, subst}
+use mathlib.Core.List.{List, [], _∷_, List·Memᴰ, List·Memᴰ·head, List·Memᴰ·tail, List·Memᴰ·not-nil, List·Memᴰ·cases-cons}
 use mathlib.Core.Logic.{_⊎_, inl, inr, ⊎-elim, _↔_}
-use mathlib.Core.List.{List, [], _∷_, List·Memᴰ, List·Memᴰ·head, List·Memᴰ·tail, List·Memᴰ·not-nil, List·Memᴰ·cases-cons, Memᴰ·cast}
+use mathlib.Core.Path.{_≡_, refl, sym, ap, _∙_, subst}
 use Prim.Native.Nat.{ℕ, _^_, _<_, _≤_}
 use native.Mathlib.Omega.{arith}
 use lib.Bits.{bitOr}
-use lib.ListN.{length, getD, set, replicate, length-set, length-replicate}
-use Rattle.blocks.specs.Links.{Link, Path, SameBlock}
-use Rattle.blocks.proofs.Links.{link-none, link-more}
-use Rattle.blocks.proofs.Paths.{same-map}
-use Rattle.tearing.proofs.Lists.{Distinct}
-use Rattle.flowsheet.specs.Sheet.{placeOf}
+use lib.ListN.{length, getD, replicate, length-set, length-replicate}
+use Rattle.blocks.specs.Links.{Link, SameBlock}
 use Rattle.flowsheet.specs.Good.{Good}
+use Rattle.flowsheet.specs.Sheet.{placeOf}
 use Rattle.flowsheet.specs.declared.Place.{Place}
 use Rattle.flowsheet.specs.declared.Place.the-variants.{At, Nowhere}
 use Rattle.flowsheet.specs.declared.Stream.{Stream}
+use Rattle.blocks.proofs.Links.{link-none, link-more}
+use Rattle.blocks.proofs.Paths.{same-map}
 use Rattle.flowsheet.proofs.Good.{rising}
 use Rattle.flowsheet.proofs.Places.{place-found}
-use Rattle.planner.specs.Links.{linkAt, withLink, withLinks, linksOf}
+use Rattle.tearing.proofs.Lists.{Distinct}
 use Rattle.planner.specs.Demand2.{Rises, Feeds}
-use Rattle.planner.proofs.Members.{mem-at, at-mem, rises-at, rises-distinct}
-use Rattle.planner.proofs.Found.{found-mem, mem-found, place-is, placeNumber, at-same}
+use Rattle.planner.specs.Links.{linkAt, withLink, withLinks, linksOf}
+use Rattle.planner.proofs.Found.{mem-found, place-is, placeNumber, at-same}
+use Rattle.planner.proofs.Members.{mem-at, rises-at, rises-distinct}
 
 -- ---- in places
 

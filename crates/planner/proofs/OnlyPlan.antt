@@ -1,17 +1,16 @@
 -- Only one plan keeps the rules. Two plans that begin alike go on alike: the next block of each is fed and stands somewhere in the rest of the
 -- other, so unless the two have a unit in common each holds a unit below all units of the other. Assumes nothing.
-use mathlib.Core.Path.{_≡_, refl, sym, ap, ap₂, _∙_, subst}
+use mathlib.Core.List.{List, [], _∷_, _++_, append-nil, append-assoc, List·Memᴰ, List·Memᴰ·cases-cons, List·Memᴰ·append-cases, Memᴰ·append-left, Memᴰ·append-right}
 use mathlib.Core.Logic.{_⊎_, inl, inr, ⊎-elim}
-use mathlib.Core.List.{List, [], _∷_, _++_, append-nil, append-assoc, List·Memᴰ, List·Memᴰ·head, List·Memᴰ·tail, List·Memᴰ·cases-cons, List·Memᴰ·append-cases, Memᴰ·append-left, Memᴰ·append-right}
-use Prim.Native.Nat.{ℕ, _<_, _≤_}
+use mathlib.Core.Path.{_≡_, refl, sym, ap, ap₂, _∙_, subst}
+use Prim.Native.Nat.{ℕ}
 use native.Mathlib.Omega.{arith}
-use Rattle.blocks.specs.Links.{SameBlock}
+use Rattle.flowsheet.specs.declared.Stream.{Stream}
 use Rattle.blocks.proofs.Places.{rising-unique}
 use Rattle.tearing.proofs.Lists.{Distinct}
-use Rattle.flowsheet.specs.declared.Stream.{Stream}
+use Rattle.planner.specs.Demand2.{Torn, BlockRules, Placed, Fed, Lower, Rules}
 use Rattle.planner.specs.Plan.{BlockPlan}
 use Rattle.planner.specs.Tables.{orderTable}
-use Rattle.planner.specs.Demand2.{Feeds, Torn, BlockRules, Placed, Fed, Lower, Rules}
 use Rattle.planner.proofs.Members.{mem-middle, once-distinct, distinct-apart, distinct-left, distinct-right, rises-rising}
 use Rattle.planner.proofs.Orders.{same-members, lex-both}
 use Rattle.planner.proofs.Parted.{order-append, order-has, order-only}

@@ -1,17 +1,17 @@
 -- Orders of a list: they have its members, an order of places is carried to an order of the units in those places and back, and lists with
 -- the same members are orders of one another. Assumes nothing.
-use mathlib.Core.Path.{_≡_, refl, sym, ap, ap₂, _∙_, subst}
+use mathlib.Core.List.{List, [], _∷_, _++_, map, map-append, List·Memᴰ, List·Memᴰ·head, List·Memᴰ·tail, List·Memᴰ·not-nil, List·Memᴰ·cases-cons}
 use mathlib.Core.Logic.{_⊎_, inl, inr, ⊎-elim}
-use mathlib.Core.List.{List, [], _∷_, _++_, map, map-append, List·Memᴰ, List·Memᴰ·head, List·Memᴰ·tail, List·Memᴰ·not-nil, List·Memᴰ·cases-cons, Memᴰ·cast}
+use mathlib.Core.Path.{_≡_, refl, sym, ap, ap₂, _∙_, subst}
 use Prim.Native.Nat.{ℕ, zero, suc, _<_, _≤_}
 use native.Mathlib.Omega.{arith}
 use lib.ListN.{length, getD, take}
 use lib.Seq.{take-suc, take-length}
+use Rattle.flowsheet.specs.declared.Stream.{Stream}
 use Rattle.tearing.specs.Order.{Pick, here, there, Perm, none, next, upto, Lex, end, less, same}
 use Rattle.tearing.specs.Row.{weights}
-use Rattle.tearing.proofs.Lists.{Each, Distinct, distinct-pick, perm-length}
 use Rattle.tearing.proofs.Chosen.{best-order}
-use Rattle.flowsheet.specs.declared.Stream.{Stream}
+use Rattle.tearing.proofs.Lists.{Distinct, distinct-pick, perm-length}
 use Rattle.planner.specs.Plan.{rowOf, orderedOf}
 use Rattle.planner.proofs.Members.{each-mem}
 

@@ -1,31 +1,31 @@
 -- The blocks part the units: each unit stands in one of them, and in one place of the whole order. What is placed by rule 4 doesn't come
 -- again, so the units of a block are none of those before it. Assumes nothing.
-use mathlib.Core.Path.{_≡_, refl, sym, ap, _∙_, subst}
-use mathlib.Core.Logic.{_⊎_, inl, inr, ⊎-elim}
 use mathlib.Core.Bool.{Bool, true, false, true≢false}
 use mathlib.Core.List.{List, [], _∷_, _++_, map, map-append, append-nil, append-assoc, List·Memᴰ, List·Memᴰ·head, List·Memᴰ·tail, List·Memᴰ·not-nil, List·Memᴰ·cases-cons, List·Memᴰ·append-cases, Memᴰ·append-left, Memᴰ·append-right, Memᴰ·cast, Memᴰ·map, Memᴰ·of-map}
+use mathlib.Core.Logic.{_⊎_, inl, inr, ⊎-elim}
+use mathlib.Core.Path.{_≡_, refl, sym, ap, _∙_, subst}
 use Prim.Native.Nat.{ℕ, _+_, _*_, _<_, _≤_}
 use native.Mathlib.Omega.{arith}
 use borrow.Author.Tests.{ltb-false}
 use lib.Dec.{ltb}
 use lib.ListN.{length, getD, length-append, length-map}
+use Rattle.blocks.specs.Blocks.{membersOf, countsOf}
 use Rattle.blocks.specs.Links.{Link, SameBlock}
 use Rattle.blocks.specs.Reach.{reachOf}
-use Rattle.blocks.specs.Blocks.{membersOf, countsOf}
 use Rattle.blocks.specs.Rule4.{Placed, here, there, Next, Follows, end, next, Rule4}
-use Rattle.blocks.proofs.Paths.{same-sym, same-trans}
-use Rattle.blocks.proofs.Blocks.{members-exact, members-rising, members-below}
-use Rattle.blocks.proofs.Rule4.{placed-same, placed-left, placed-right, placed-last, rule4-once}
-use Rattle.blocks.proofs.OrderOf.{order-rule4, order-counts, order-most, order-below}
-use Rattle.tearing.proofs.Lists.{Distinct, distinct-perm}
 use Rattle.flowsheet.specs.Good.{Good}
 use Rattle.flowsheet.specs.declared.Stream.{Stream}
+use Rattle.blocks.proofs.Blocks.{members-exact, members-rising, members-below}
+use Rattle.blocks.proofs.OrderOf.{order-rule4, order-counts, order-most, order-below}
+use Rattle.blocks.proofs.Paths.{same-sym}
+use Rattle.blocks.proofs.Rule4.{placed-same, placed-left, placed-right, placed-last, rule4-once}
+use Rattle.tearing.proofs.Lists.{Distinct, distinct-perm}
+use Rattle.planner.specs.Demand2.{Rises}
 use Rattle.planner.specs.Links.{linksOf}
 use Rattle.planner.specs.Plan.{BlockPlan, unitsIn, orderedOf, blockPlan, reachIn, blockAt, blockOrder, anyOver, blocksOf, tooLarge, planOf}
-use Rattle.planner.specs.Tables.{orderTable, recordsFrom, blockTable}
-use Rattle.planner.specs.Demand2.{Rises}
-use Rattle.planner.proofs.Members.{mem-at, at-mem, mem-split, distinct-append, distinct-left, distinct-right, distinct-apart, distinct-place, rises-distinct, rising-rises, rises-map}
+use Rattle.planner.specs.Tables.{orderTable, recordsFrom}
 use Rattle.planner.proofs.Linked.{links-length, links-inside, units-up, units-distinct}
+use Rattle.planner.proofs.Members.{mem-at, at-mem, mem-split, distinct-append, distinct-left, distinct-right, distinct-apart, distinct-place, rises-distinct, rising-rises, rises-map}
 use Rattle.planner.proofs.Orders.{perm-mem, mem-perm, ordered-perm, ordered-length}
 
 -- ---- rule 4, of any links

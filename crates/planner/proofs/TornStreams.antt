@@ -1,9 +1,9 @@
 -- The torn streams. `isTorn` tests for what rule 2 says, `tornOf` lists the torn streams' numbers, rising; and no stream is torn in two
 -- blocks, so there are at most as many torn streams as streams. Assumes nothing.
-use mathlib.Core.Path.{_≡_, refl, sym, ap, _∙_, subst}
-use mathlib.Core.Logic.{_⊎_, inl, inr, ⊎-elim, _↔_}
-use mathlib.Core.Bool.{Bool, true, false, cond, not, true≢false}
+use mathlib.Core.Bool.{Bool, true, false, cond, true≢false}
 use mathlib.Core.List.{List, [], _∷_, _++_, map, List·Memᴰ, List·Memᴰ·head, List·Memᴰ·tail, List·Memᴰ·not-nil, List·Memᴰ·cases-cons, append-nil, Memᴰ·append-left, Memᴰ·append-right, Memᴰ·cast, Memᴰ·map}
+use mathlib.Core.Logic.{_⊎_, inl, inr, ⊎-elim, _↔_}
+use mathlib.Core.Path.{_≡_, refl, sym, ap, _∙_, subst}
 use Prim.Native.Nat.{ℕ, suc, _+_, _-_, _<_, _≤_}
 use native.Mathlib.Decide.{decLt}
 use native.Mathlib.Omega.{arith}
@@ -11,19 +11,19 @@ use borrow.Author.Tests.{ltb-true, ltb-false, le-ltb, not-true, not-false}
 use lib.Dec.{ltb}
 use lib.ListN.{length, getD, take, drop, length-append, length-drop, length-map, List·getD-map}
 use lib.Seq.{split-at, getD-drop, getD-append-seam, getD-append-add}
-use Rattle.tearing.proofs.Lists.{Distinct}
-use Rattle.flowsheet.specs.Sheet.{noStream, placeOf}
 use Rattle.flowsheet.specs.Good.{Good}
+use Rattle.flowsheet.specs.Sheet.{noStream, placeOf}
 use Rattle.flowsheet.specs.declared.Place.{Place}
 use Rattle.flowsheet.specs.declared.Place.the-variants.{At, Nowhere}
 use Rattle.flowsheet.specs.declared.Stream.{Stream}
 use Rattle.flowsheet.proofs.Good.{rising}
 use Rattle.flowsheet.proofs.Places.{place-found}
-use Rattle.planner.specs.Plan.{BlockPlan, tornBetween, isTorn, orderedOf, tornOf, blockPlan, blocksOf, planOf}
-use Rattle.planner.specs.Tables.{orderTable, tornTable}
+use Rattle.tearing.proofs.Lists.{Distinct}
 use Rattle.planner.specs.Demand2.{StandsBefore, Torn, Rises, none, more}
-use Rattle.planner.proofs.Members.{mem-at, at-mem, distinct-right, distinct-left, distinct-apart, rises-at}
+use Rattle.planner.specs.Plan.{tornBetween, isTorn, orderedOf, tornOf, blockPlan, blocksOf, planOf}
+use Rattle.planner.specs.Tables.{orderTable, tornTable}
 use Rattle.planner.proofs.Found.{found-mem, mem-found, place-is, at-same}
+use Rattle.planner.proofs.Members.{mem-at, at-mem, distinct-right, distinct-apart, rises-at}
 use Rattle.planner.proofs.Parted.{plansOf, front-distinct}
 
 -- ---- the test

@@ -1,29 +1,29 @@
 -- The weights of a block. What stands in the row for two places is what the streams between their units weigh together, so what an order of
 -- the places tears is what the order of their units tears: stream by stream, since both are sums over the streams. Assumes nothing.
-use mathlib.Core.Path.{_≡_, refl, sym, ap, _∙_, subst}
-use mathlib.Core.Logic.{_⊎_, inl, inr, ⊎-elim}
 use mathlib.Core.Bool.{Bool, true, false, cond, not}
-use mathlib.Core.List.{List, [], _∷_, _++_, map, List·Memᴰ, List·Memᴰ·head, Memᴰ·append-left, Memᴰ·append-right, Memᴰ·cast}
+use mathlib.Core.List.{List, [], _∷_, map, List·Memᴰ, List·Memᴰ·head, Memᴰ·append-left, Memᴰ·append-right}
+use mathlib.Core.Logic.{_⊎_, inl, inr, ⊎-elim}
+use mathlib.Core.Path.{_≡_, refl, sym, ap, _∙_, subst}
 use Prim.Native.Nat.{ℕ, zero, suc, _+_, _*_, _<_, _≤_}
-use native.Mathlib.Omega.{arith}
 use native.Mathlib.Nat.{eq-or-lt-of-le, le-of-suc-le-suc}
+use native.Mathlib.Omega.{arith}
 use borrow.Author.Tests.{eqb-true, eqb-false, eq-eqb, ne-eqb}
-use lib.Dec.{eqb, ltb}
-use lib.ListN.{length, getD, set, replicate, length-set, length-map, length-replicate, getD-replicate}
+use lib.Dec.{eqb}
+use lib.ListN.{length, getD, replicate, length-set, length-map, length-replicate, getD-replicate}
 use lib.Seq.{getD-set-same, getD-set-other}
-use Rattle.tearing.specs.Order.{Perm, upto, choose, standsBefore, sum, torn, placeOf as standsAt}
-use Rattle.tearing.specs.Row.{weights}
-use Rattle.tearing.proofs.Lists.{Each, each-map, Distinct, distinct-perm, perm-length, rising-upto, rising-distinct, upto-below, sum-append, sum-zero, sum-agree, sum-same, sum-add}
-use Rattle.tearing.proofs.Torn.{place-at, torn-agree}
 use Rattle.flowsheet.specs.Sheet.{placeOf}
 use Rattle.flowsheet.specs.declared.Place.{Place}
 use Rattle.flowsheet.specs.declared.Place.the-variants.{At, Nowhere}
 use Rattle.flowsheet.specs.declared.Stream.{Stream}
+use Rattle.tearing.specs.Order.{Perm, upto, choose, standsBefore, sum, torn, placeOf as standsAt}
+use Rattle.tearing.specs.Row.{weights}
 use Rattle.flowsheet.proofs.Places.{place-found, place-cases, place-nowhere}
-use Rattle.planner.specs.Plan.{chargeAt, charged, chargedAll, rowOf, tornBetween, isTorn}
+use Rattle.tearing.proofs.Lists.{each-map, Distinct, distinct-perm, rising-upto, rising-distinct, upto-below, sum-append, sum-zero, sum-agree, sum-same, sum-add}
+use Rattle.tearing.proofs.Torn.{place-at, torn-agree}
 use Rattle.planner.specs.Demand2.{tornWeight}
+use Rattle.planner.specs.Plan.{chargeAt, charged, chargedAll, rowOf, tornBetween, isTorn}
+use Rattle.planner.proofs.Found.{not-found, place-is}
 use Rattle.planner.proofs.Members.{at-mem, distinct-place}
-use Rattle.planner.proofs.Found.{found-mem, not-found, place-is}
 use Rattle.planner.proofs.Orders.{perm-mem, mem-perm, perm-map, block-at}
 
 -- ---- the row
