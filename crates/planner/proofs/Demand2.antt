@@ -1,14 +1,14 @@
 -- Demand 2: the plan keeps rules 1 to 4, its untorn streams run forward, and it is the only plan that keeps the rules. What `blocks` says of
 -- places is said of their units, block by block. Assumes nothing.
 use mathlib.Core.Bool.{Bool, true, false}
-use mathlib.Core.List.{List, [], _∷_, _++_, map, append-assoc, List·Memᴰ, List·Memᴰ·tail, Memᴰ·append-left, Memᴰ·append-right, Memᴰ·cast, Memᴰ·map, Memᴰ·of-map}
+use mathlib.Core.List.{List, [], _∷_, _++_, map, map-append, append-assoc, List·Memᴰ, List·Memᴰ·tail, Memᴰ·append-left, Memᴰ·append-right, Memᴰ·cast, Memᴰ·map, Memᴰ·of-map}
 use mathlib.Core.Logic.{inl, _↔_}
 use mathlib.Core.Path.{_≡_, refl, sym, ap, ap₂, _∙_, subst}
 use Prim.Native.Nat.{ℕ, _<_}
 use native.Mathlib.Omega.{arith}
 use lib.ListN.{length, getD}
 use Rattle.blocks.specs.Links.{Link, SameBlock}
-use Rattle.blocks.specs.Rule4.{Placed as ListedIn, Ready}
+use Rattle.blocks.specs.Rule4.{Placed as ListedIn, Ready, Before}
 use Rattle.flowsheet.specs.Good.{Good}
 use Rattle.flowsheet.specs.declared.Stream.{Stream}
 use Rattle.blocks.proofs.Free.{same?}
@@ -25,27 +25,36 @@ use Rattle.planner.proofs.LeastOrder.{block-rules}
 use Rattle.planner.proofs.Linked.{links-length, links-inside, units-up, link-feeds, feeds-link, same-units, same-places}
 use Rattle.planner.proofs.Members.{mem-at, at-mem, mem-split, mem-middle, distinct-once}
 use Rattle.planner.proofs.OnlyPlan.{rules-only}
-use Rattle.planner.proofs.Parted.{turn, later, plansOf, plans-append, order-append, order-only, plan-mem, mem-plan, blocks-rule4, block-places, places-block, one-place, blocksAt, units-placed, placed-units, plan-units-distinct, plan-distinct, blocks-rise, blocks-all, blocks-small}
+use Rattle.planner.proofs.Parted.{turn, later, plansOf, order-only, plan-mem, mem-plan, blocks-rule4, block-places, places-block, one-place, blocksAt, units-placed, placed-units, plan-units-distinct, plan-distinct, order-parts, blocks-known, blocks-some, blocks-rise, blocks-all, blocks-small}
 use Rattle.planner.proofs.TornStreams.{torn-is, untorn-stands, streams-rise}
 
 -- where a carried list is cut, the list is cut there
-map-cut : {A B : Type 0} (f : A → B) (l : List A) (front back : List B) (y : B) → map f l ≡ front ++ (y ∷ back)
-    → (before : List A) × (x : A) × (after : List A) × (l ≡ before ++ (x ∷ after)) × (front ≡ map f before) × (y ≡ f x) × (back ≡ map f after)
+record Cut {A B : Type 0} (f : A → B) (l : List A) (front back : List B) (y : B) : Type 0 where
+  before : List A
+  at : A
+  after : List A
+  split : l ≡ before ++ (at ∷ after)
+  fronts : front ≡ map f before
+  same : y ≡ f at
+  backs : back ≡ map f after
+
+map-cut : {A B : Type 0} (f : A → B) (l : List A) (front back : List B) (y : B) → map f l ≡ front ++ (y ∷ back) → Cut f l front back y
 map-cut f [] [] back y e = absurd (let z : _≡_ {A = ℕ} 0 1 = cc in omega arith)
 map-cut f [] (z ∷ front) back y e = absurd (let z : _≡_ {A = ℕ} 0 1 = cc in omega arith)
-map-cut f (x ∷ l) [] back y e = ([], x, l, refl, refl, (cc), (cc))
-map-cut {A} {B} f (x ∷ l) (z ∷ front) back y e =
-    let rest : map f l ≡ front ++ (y ∷ back) = cc in
-    let head : z ≡ f x = cc in
-    let r = map-cut f l front back y rest in (
-      x ∷ r .0,
-      r .1,
-      r .2,
-      ap (λ (k : List A). x ∷ k) (r .3),
-      ap₂ (λ (a : B) (k : List B). a ∷ k) head (r .4),
-      r .5,
-      r .6,
-    )
+map-cut f (x ∷ l) [] back y e = record { before = []; at = x; after = l; split = refl; fronts = refl; same = cc; backs = cc }
+map-cut {A} {B} f (x ∷ l) (z ∷ front) back y e = longer (cc) (map-cut f l front back y (cc))
+  where
+    longer : z ≡ f x → Cut f l front back y → Cut f (x ∷ l) (z ∷ front) back y
+    longer h c =
+        record {
+          before = x ∷ c .before;
+          at = c .at;
+          after = c .after;
+          split = ap (λ (k : List A). x ∷ k) (c .split);
+          fronts = ap₂ (λ (a : B) (k : List B). a ∷ k) h (c .fronts);
+          same = c .same;
+          backs = c .backs;
+        }
 
 -- ---- standing before
 
@@ -103,13 +112,21 @@ module _ {us : List ℕ} {ss : List Stream} (good : Good us ss) where
   unit-at : (p u : ℕ) → List·Memᴰ u (planAt p .units) → (j : ℕ) × (j < length us) × (getD us j 0 ≡ u) × SameBlock L p j
   unit-at p u m = block-places good p u (mem-plan ss (blockAt us ss p) u m)
 
-  -- a block of the plan is that of one of the places listed
-  plan-block : (b : BlockPlan) → List·Memᴰ b (planOf us ss) → (p : ℕ) × List·Memᴰ p (blockOrder us ss) × (planAt p ≡ b)
-  unfolding planOf blocksOf
-  plan-block b m =
-      let r = Memᴰ·of-map (λ (x : List ℕ). blockPlan x ss) (blocksOf us ss) m in
-      let s = Memᴰ·of-map (blockAt us ss) (blockOrder us ss) (r .1) in
+  -- a block of the plan is the plan of one of the blocks
+  plan-of : (b : BlockPlan) → List·Memᴰ b (planOf us ss) → (block : List ℕ) × List·Memᴰ block (blocksOf us ss) × (blockPlan block ss ≡ b)
+  unfolding planOf
+  plan-of b m = Memᴰ·of-map (λ (x : List ℕ). blockPlan x ss) (blocksOf us ss) m
+
+  -- and that of one of the places listed
+  listed : (o : List ℕ) (b : BlockPlan) → List·Memᴰ b (plansAt o) → (p : ℕ) × List·Memᴰ p o × (planAt p ≡ b)
+  listed o b m =
+      let r = Memᴰ·of-map (λ (x : List ℕ). blockPlan x ss) (blocksAt good o) m in
+      let s = Memᴰ·of-map (blockAt us ss) o (r .1) in
       (s .0, s .1, ap (λ (x : List ℕ). blockPlan x ss) (s .2) ∙ r .2)
+
+  plan-at : (b : BlockPlan) → List·Memᴰ b (planOf us ss) → (p : ℕ) × List·Memᴰ p (blockOrder us ss) × (planAt p ≡ b)
+  unfolding planOf blocksOf
+  plan-at b m = listed (blockOrder us ss) b m
 
   listed-below : (p : ℕ) → List·Memᴰ p (blockOrder us ss) → p < length us
   unfolding blockOrder
@@ -136,21 +153,31 @@ module _ {us : List ℕ} {ss : List Stream} (good : Good us ss) where
   -- ---- rule 4
 
   -- where the plan is cut, the order of the places is
-  cut : (front back : List BlockPlan) (b : BlockPlan) → planOf us ss ≡ front ++ (b ∷ back)
-      → (before : List ℕ) × (p : ℕ) × (after : List ℕ) × (blockOrder us ss ≡ before ++ (p ∷ after))
-      × (front ≡ plansAt before) × (b ≡ planAt p) × (back ≡ plansAt after)
+  record PlanCut (front back : List BlockPlan) (b : BlockPlan) : Type 0 where
+    before : List ℕ
+    at : ℕ
+    after : List ℕ
+    split : blockOrder us ss ≡ before ++ (at ∷ after)
+    fronts : front ≡ plansAt before
+    same : b ≡ planAt at
+    backs : back ≡ plansAt after
+
+  plan-cut : (front back : List BlockPlan) (b : BlockPlan) → planOf us ss ≡ front ++ (b ∷ back) → PlanCut front back b
   unfolding planOf blocksOf
-  cut front back b e =
-      let r = map-cut (λ (x : List ℕ). blockPlan x ss) (blocksOf us ss) front back b e in
-      let s = map-cut (blockAt us ss) (blockOrder us ss) (r .0) (r .2) (r .1) (r .3) in (
-        s .0,
-        s .1,
-        s .2,
-        s .3,
-        r .4 ∙ ap (plansOf ss) (s .4),
-        r .5 ∙ ap (λ (x : List ℕ). blockPlan x ss) (s .5),
-        r .6 ∙ ap (plansOf ss) (s .6),
-      )
+  plan-cut front back b e = through (map-cut (λ (x : List ℕ). blockPlan x ss) (blocksOf us ss) front back b e)
+    where
+      through : Cut (λ (x : List ℕ). blockPlan x ss) (blocksAt good (blockOrder us ss)) front back b → PlanCut front back b
+      through r =
+          let c = map-cut (blockAt us ss) (blockOrder us ss) (r .before) (r .after) (r .at) (r .split) in
+          record {
+            before = c .before;
+            at = c .at;
+            after = c .after;
+            split = c .split;
+            fronts = r .fronts ∙ ap (plansOf ss) (c .fronts);
+            same = r .same ∙ ap (λ (x : List ℕ). blockPlan x ss) (c .same);
+            backs = r .backs ∙ ap (plansOf ss) (c .backs);
+          }
 
   fed-at : (before after : List ℕ) (p : ℕ) → blockOrder us ss ≡ before ++ (p ∷ after) → Fed us ss (plansAt before) (planAt p)
   fed-at before after p e u v f m n =
@@ -198,6 +225,21 @@ module _ {us : List ℕ} {ss : List Stream} (good : Good us ss) where
             omega (arith, j .2, units-up good p (j .0) (omega (arith, least, apart)) (j .1));
       }
 
+  lowest-in : (front back : List BlockPlan) (b : BlockPlan) → PlanCut front back b → (d : BlockPlan) → List·Memᴰ d back
+      → Fed us ss front d → Lower b d
+  lowest-in front back b c d m f =
+      let r = listed (c .after) d (subst (λ (x : List BlockPlan). List·Memᴰ d x) (c .backs) m) in
+      subst (λ (x : BlockPlan). Lower x d) (sym (c .same))
+      (subst (λ (x : BlockPlan). Lower (planAt (c .at)) x) (r .2)
+      (lowest-at (c .before) (c .after) (c .at) (r .0) (c .split) (r .1)
+      (subst (λ (x : BlockPlan). Fed us ss (plansAt (c .before)) x) (sym (r .2))
+      (subst (λ (x : List BlockPlan). Fed us ss x d) (c .fronts) f))))
+
+  fed-in : (front back : List BlockPlan) (b : BlockPlan) → PlanCut front back b → Fed us ss front b
+  fed-in front back b c =
+      subst (λ (x : BlockPlan). Fed us ss front x) (sym (c .same))
+      (subst (λ (x : List BlockPlan). Fed us ss x (planAt (c .at))) (sym (c .fronts)) (fed-at (c .before) (c .after) (c .at) (c .split)))
+
   -- The plan keeps rules 1 to 4.
   pub demand2 : tooLarge us ss ≡ false → Rules us ss (planOf us ss)
   unfolding planOf
@@ -206,49 +248,31 @@ module _ {us : List ℕ} {ss : List Stream} (good : Good us ss) where
         all = blocks-all good;
         only = λ u m.
             let b = order-only (planOf us ss) u m in
-            let p = plan-block (b .0) (b .1) in
-            let j = unit-at (p .0) u (subst (λ (x : BlockPlan). List·Memᴰ u (x .units)) (sym (p .2)) (b .2)) in
-            Memᴰ·cast (sym (j .2)) (mem-at us (j .0) 0 (j .1));
+            let r = plan-of (b .0) (b .1) in
+            blocks-known good (r .0) (r .1) u
+            (mem-plan ss (r .0) u (subst (λ (x : BlockPlan). List·Memᴰ u (x .units)) (sym (r .2)) (b .2)));
         once = λ front back u e m. distinct-once front back u (subst (λ (l : List ℕ). Distinct l) e (plan-distinct good)) m;
         some = λ b m.
-            let p = plan-block b m in (
-              getD us (p .0) 0,
-              subst (λ (x : BlockPlan). List·Memᴰ (getD us (p .0) 0) (x .units)) (p .2)
-                  (in-block (p .0) (p .0) (listed-below (p .0) (p .1)) .1 (inl refl)),
-            );
+            let r = plan-of b m in
+            let w = blocks-some good (r .0) (r .1) in
+            (w .0, subst (λ (x : BlockPlan). List·Memᴰ (w .0) (x .units)) (r .2) (plan-mem ss (r .0) (w .0) (w .1)));
         share = λ b m u k v n.
-            let p = plan-block b m in
+            let p = plan-at b m in
             subst (λ (x : BlockPlan). List·Memᴰ v (x .units) ↔ SameBlock (Feeds us ss) u v) (p .2)
             (shared (p .0) u v (subst (λ (x : BlockPlan). List·Memᴰ u (x .units)) (sym (p .2)) k) n);
         blocks = λ b m.
-            let r = Memᴰ·of-map (λ (x : List ℕ). blockPlan x ss) (blocksOf us ss) m in
+            let r = plan-of b m in
             subst (λ (x : BlockPlan). BlockRules ss x) (r .2)
             (block-rules (r .0) (blocks-rise good (r .0) (r .1)) (blocks-small us ss small (r .0) (r .1)) ss (streams-rise good));
-        fed = λ front back b e.
-            let c = cut front back b e in
-            subst (λ (x : BlockPlan). Fed us ss front x) (sym (c .5))
-            (subst (λ (x : List BlockPlan). Fed us ss x (planAt (c .1))) (sym (c .4)) (fed-at (c .0) (c .2) (c .1) (c .3)));
-        lowest = λ front back b e d m f.
-            let c = cut front back b e in
-            let q = Memᴰ·of-map (λ (x : List ℕ). blockPlan x ss) (blocksAt good (c .2)) (subst (λ (x : List BlockPlan). List·Memᴰ d x) (c .6) m) in
-            let r = Memᴰ·of-map (blockAt us ss) (c .2) (q .1) in
-            let same : planAt (r .0) ≡ d = ap (λ (x : List ℕ). blockPlan x ss) (r .2) ∙ q .2 in
-            subst (λ (x : BlockPlan). Lower x d) (sym (c .5))
-            (subst (λ (x : BlockPlan). Lower (planAt (c .1)) x) same
-            (lowest-at (c .0) (c .2) (c .1) (r .0) (c .3) (r .1)
-            (subst (λ (x : BlockPlan). Fed us ss (plansAt (c .0)) x) (sym same)
-            (subst (λ (x : List BlockPlan). Fed us ss x d) (c .4) f))));
+        fed = λ front back b e. fed-in front back b (plan-cut front back b e);
+        lowest = λ front back b e d m f. lowest-in front back b (plan-cut front back b e) d m f;
       }
 
   -- ---- untorn streams run forward
 
   order-cut : (o p : List ℕ) → blockOrder us ss ≡ o ++ p → orderTable (planOf us ss) ≡ orderTable (plansAt o) ++ orderTable (plansAt p)
-  unfolding planOf blocksOf
-  order-cut o p e =
-      ap (λ (x : List ℕ). orderTable (plansAt x)) e
-      ∙ ap (λ (x : List (List ℕ)). orderTable (plansOf ss x)) (mathlib.Core.List.map-append (blockAt us ss) o p)
-      ∙ ap orderTable (plans-append ss (blocksAt good o) (blocksAt good p))
-      ∙ order-append (plansAt o) (plansAt p)
+  unfolding blocksOf
+  order-cut o p e = order-parts good (blocksAt good o) (blocksAt good p) (ap (map (blockAt us ss)) e ∙ map-append (blockAt us ss) o p)
 
   forward-within : (before after : List ℕ) (p : ℕ) → blockOrder us ss ≡ before ++ (p ∷ after) → (s : Stream)
       → List·Memᴰ (s .source) (planAt p .units) → List·Memᴰ (s .receiver) (planAt p .units) → (Torn (planAt p .units) s → ⊥)
@@ -261,37 +285,51 @@ module _ {us : List ℕ} {ss : List Stream} (good : Good us ss) where
       go true x = absurd (f (torn-is (planAt p .units) (plan-units-distinct good p) s .0 x))
       go false x = untorn-stands (planAt p .units) s m n x
 
+  -- a stream whose ends share a block, and that isn't torn there
+  forward-same : (i j : ℕ) → i < length us → j < length us → SameBlock L i j → (s : Stream) → getD us i 0 ≡ s .source → getD us j 0 ≡ s .receiver
+      → ((p : ℕ) → List·Memᴰ p (blockOrder us ss) → Torn (planAt p .units) s → ⊥)
+      → StandsBefore (orderTable (planOf us ss)) (s .source) (s .receiver)
+  forward-same i j h k x s e d f =
+      let o = rule4-once (blocks-rule4 good) i h in
+      let here : List·Memᴰ (o .place) (blockOrder us ss) =
+      subst (λ (l : List ℕ). List·Memᴰ (o .place) l) (sym (o .split)) (mem-middle (o .before) (o .after)) in
+      forward-within (o .before) (o .after) (o .place) (o .split) s
+      (Memᴰ·cast (sym e) (in-block (o .place) i h .1 (o .same)))
+      (Memᴰ·cast (sym d) (in-block (o .place) j k .1 (same-trans (o .same) x))) (f (o .place) here)
+
+  -- a stream from one block to another
+  forward-across : (i j : ℕ) → i < length us → j < length us → Before L (blockOrder us ss) i j → {u v : ℕ} → getD us i 0 ≡ u → getD us j 0 ≡ v
+      → StandsBefore (orderTable (planOf us ss)) u v
+  forward-across i j h k w {u} {v} e d =
+      let parts = order-cut (w .front) (w .back) (w .split) in
+      subst (λ (l : List ℕ). StandsBefore l u v) (sym parts)
+      (stands-across (Memᴰ·cast (sym e) (placed-units good (w .front) i h (w .source))) (Memᴰ·cast (sym d) (placed-units good (w .back) j k (w .receiver))))
+
   -- The untorn streams run forward.
   pub demand2-forward : Forward us ss (planOf us ss)
   unfolding planOf blocksOf
-  demand2-forward s m a b f =
-      let i = at-mem 0 a in
-      let j = at-mem 0 b in
-      let feeds : Feeds us ss (getD us (i .0) 0) (getD us (j .0) 0) =
-      record {
-        source = mem-at us (i .0) 0 (i .1);
-        receiver = mem-at us (j .0) 0 (j .1);
-        stream = s;
-        held = m;
-        leaves = sym (i .2);
-        enters = sym (j .2);
-      } in
-      elim (same? (path? (linksOf us ss) (links-length us ss)) (i .0) (j .0)) [
-        | yes x ↦
-            let o = rule4-once (blocks-rule4 good) (i .0) (i .1) in
-            let listed : List·Memᴰ (o .place) (blockOrder us ss) =
-            subst (λ (l : List ℕ). List·Memᴰ (o .place) l) (sym (o .split)) (mem-middle (o .before) (o .after)) in
-            forward-within (o .before) (o .after) (o .place) (o .split) s
-            (Memᴰ·cast (sym (i .2)) (in-block (o .place) (i .0) (i .1) .1 (o .same)))
-            (Memᴰ·cast (sym (j .2)) (in-block (o .place) (j .0) (j .1) .1 (same-trans (o .same) x)))
-            (f (planAt (o .place)) (Memᴰ·map (λ (l : List ℕ). blockPlan l ss) (Memᴰ·map (blockAt us ss) listed)))
-        | no g ↦
-            let w = rule4-forward (blocks-rule4 good) (i .0) (j .0) (j .1) (feeds-link good (i .0) (j .0) (i .1) (j .1) feeds) g in
-            subst (λ (l : List ℕ). StandsBefore l (s .source) (s .receiver)) (sym (order-cut (w .front) (w .back) (w .split)))
-            (stands-across
-            (Memᴰ·cast (sym (i .2)) (placed-units good (w .front) (i .0) (i .1) (w .source)))
-            (Memᴰ·cast (sym (j .2)) (placed-units good (w .back) (j .0) (j .1) (w .receiver))))
-      ]
+  demand2-forward s m a b f = go (at-mem 0 a) (at-mem 0 b)
+    where
+      go : (i : ℕ) × (i < length us) × (getD us i 0 ≡ s .source) → (j : ℕ) × (j < length us) × (getD us j 0 ≡ s .receiver)
+          → StandsBefore (orderTable (planOf us ss)) (s .source) (s .receiver)
+      go i j =
+          let l : L (i .0) (j .0) =
+          feeds-link good (i .0) (j .0) (i .1) (j .1)
+          (record {
+            source = mem-at us (i .0) 0 (i .1);
+            receiver = mem-at us (j .0) 0 (j .1);
+            stream = s;
+            held = m;
+            leaves = sym (i .2);
+            enters = sym (j .2);
+          }) in
+          elim (same? (path? (linksOf us ss) (links-length us ss)) (i .0) (j .0)) [
+            | yes x ↦
+                forward-same (i .0) (j .0) (i .1) (j .1) x s (i .2) (j .2)
+                (λ p n. f (planAt p) (Memᴰ·map (λ (l : List ℕ). blockPlan l ss) (Memᴰ·map (blockAt us ss) n)))
+            | no g ↦
+                forward-across (i .0) (j .0) (i .1) (j .1) (rule4-forward (blocks-rule4 good) (i .0) (j .0) (j .1) l g) (i .2) (j .2)
+          ]
 
   -- Any plan that keeps the rules is the plan.
   pub demand2-only : tooLarge us ss ≡ false → (plan : List BlockPlan) → Rules us ss plan → plan ≡ planOf us ss
