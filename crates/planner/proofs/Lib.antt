@@ -1,4 +1,5 @@
--- The laws of the plan that the crates above cite, and demand 2.
+-- Demand 2 and the laws of the plan that the crates above cite: `Demand2` says what the plan is, `Parted` that its blocks part the units,
+-- `TornStreams` what is torn and how much, `Inside` what a block's plan goes by. The others are on the way there.
 pub mod Members
 pub mod Found
 pub mod Linked
