@@ -24,7 +24,7 @@ mem-found l n p =
 pub not-found : (l : List ℕ) (n : ℕ) → (List·Memᴰ n l → ⊥) → placeOf l n ≡ Nowhere
 not-found l n f = ⊎-elim (λ r. absurd (f (found-mem l n (r .0) (r .1)))) (λ e. e) (place-cases l n)
 
--- two lists' worth of cases: a number is a member or it is nowhere
+-- a number is a member or it isn't
 pub mem-cases : (l : List ℕ) (n : ℕ) → List·Memᴰ n l ⊎ (List·Memᴰ n l → ⊥)
 mem-cases l n =
     ⊎-elim (λ r. inl (found-mem l n (r .0) (r .1)))
@@ -40,7 +40,7 @@ place-is l d n i h e =
     (λ x. absurd (place-nowhere l n x i h e))
     (place-cases l n)
 
--- the number of a place; it stands for no place where there is none
+-- the number of a place, 0 where there is none
 abbrev pub placeNumber : Place → ℕ
 placeNumber (At i) = i
 placeNumber Nowhere = 0

@@ -7,5 +7,9 @@ pub mod Parted
 pub mod TornStreams
 pub mod Weighed
 pub mod Append
+pub mod LeastOrder
+pub mod OnlyPlan
+pub mod Inside
+pub mod Demand2
 mod Turns
 mod Sorting

@@ -141,6 +141,10 @@ module _ {us : List ℕ} {ss : List Stream} (good : Good us ss) where
         ),
       )
 
+  -- So in unit numbers: a link exactly where a stream leads from the one unit to the other.
+  pub link-units : (i j : ℕ) → i < length us → j < length us → Link (linksOf us ss) i j ↔ Feeds us ss (getD us i 0) (getD us j 0)
+  link-units i j h k = (link-feeds i j, feeds-link i j h k)
+
   -- the place of a unit
   abbrev place : ℕ → ℕ
   place u = placeNumber (placeOf us u)

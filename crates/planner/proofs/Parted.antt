@@ -180,12 +180,17 @@ module _ {us : List ℕ} {ss : List Stream} (good : Good us ss) where
       order-has (getD us j 0) (Memᴰ·map (λ (x : List ℕ). blockPlan x ss) (Memᴰ·map (blockAt us ss) (r .1)))
       (plan-mem ss (blockAt us ss (r .0)) (getD us j 0) (places-block (r .0) j h (r .2)))
 
+  -- no unit stands twice in a block's order
+  pub plan-units-distinct : (p : ℕ) → Distinct (blockPlan (blockAt us ss p) ss .units)
+  plan-units-distinct p =
+      subst (λ (l : List ℕ). Distinct l) (sym (units-plan ss (blockAt us ss p)))
+      (distinct-perm (ordered-perm (blockAt us ss p) ss) (rises-distinct (block-rises p)))
+
   distinct-follows : {done o : List ℕ} → Follows (Link (linksOf us ss)) (length us) done o → Distinct (orderTable (plansOf ss (blocksAt o)))
   distinct-follows (end f) = tt
   distinct-follows {done} (next {i = i} {rest = o} h r) =
       distinct-append (blockPlan (blockAt us ss i) ss .units) (orderTable (plansOf ss (blocksAt o)))
-      (subst (λ (l : List ℕ). Distinct l) (sym (units-plan ss (blockAt us ss i)))
-      (distinct-perm (ordered-perm (blockAt us ss i) ss) (rises-distinct (block-rises i))))
+      (plan-units-distinct i)
       (distinct-follows r)
       (λ x a b.
       let j = block-places i x (mem-plan ss (blockAt us ss i) x a) in

@@ -34,7 +34,7 @@ pub record Torn (order : List ℕ) (s : Stream) : Type 0 where
   pub receiver : List·Memᴰ (s .receiver) order
   pub back : StandsBefore order (s .source) (s .receiver) → ⊥
 
--- the total weight of the torn streams of an order (`isTorn` tests for `Torn`: proofs/Demand2.antt)
+-- the total weight of the torn streams of an order (`isTorn` tests for `Torn`: proofs/TornStreams.antt)
 abbrev pub tornWeight : List Stream → List ℕ → ℕ
 tornWeight [] order = 0
 tornWeight (s ∷ ss) order = cond (isTorn order s) (s .weight) 0 + tornWeight ss order
