@@ -1,4 +1,10 @@
 // The plan of a flowsheet, its image, and the part of it that a screen asks for.
+mod screen;
+mod written;
+
+pub use screen::part;
+pub use written::image_length;
+pub use written::put_plan;
 ghost use mathlib.Core.Path.{_≡_};
 
 // At most 256 numbers of 16 bits; the places beyond the count are zero.

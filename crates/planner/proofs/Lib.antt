@@ -1,0 +1,4 @@
+-- The laws of the plan that the crates above cite.
+pub mod Image
+pub mod SettledImage
+mod Spans
