@@ -25,19 +25,24 @@ partOf asked blocks order torn place =
 
 -- ---- "not a copy": where the part lies. A lent row lies in a piece of memory from a byte of it on, and a number has two bytes
 
--- where the n numbers of a row from `first` on lie, or `front` where they run beyond it
-abbrev pub spanLies : ℕ × ℕ → RefT (List ℕ) → ℕ → ℕ → ℕ × ℕ
-spanLies front row first n = cond (leb (first + n) (length (now row))) (ptr row .0, ptr row .1 + 2 * first) front
+-- where the n numbers of a row from `first` on lie, or the front of the order row where they run beyond it
+abbrev pub spanLies : RefT (List ℕ) → RefT (List ℕ) → ℕ → ℕ → ℕ × ℕ
+spanLies order row first n = cond (leb (first + n) (length (now row))) (ptr row .0, ptr row .1 + 2 * first) (ptr order)
 
 abbrev pub askedLies : Asked → List ℕ → RefT (List ℕ) → RefT (List ℕ) → ℕ → ℕ × ℕ
-askedLies Units blocks order torn at = spanLies (ptr order) order (getD blocks at 0) (getD blocks (at + 1) 0)
-askedLies Tears blocks order torn at = spanLies (ptr order) torn (getD blocks (at + 2) 0) (getD blocks (at + 3) 0)
+askedLies Units blocks order torn at = spanLies order order (getD blocks at 0) (getD blocks (at + 1) 0)
+askedLies Tears blocks order torn at = spanLies order torn (getD blocks (at + 2) 0) (getD blocks (at + 3) 0)
 
 unfoldable pub partLies : Asked → List ℕ → RefT (List ℕ) → RefT (List ℕ) → ℕ → ℕ × ℕ
 partLies asked blocks order torn place =
     cond (leb (4 * place + 4) (length blocks)) (askedLies asked blocks order torn (4 * place)) (ptr order)
 
--- what the screen is handed: the numbers asked for, in the row that was lent
+-- a span of a row, handed back: its numbers, and where they lie
+pub record Spanned (order row : RefT (List ℕ)) (first n : ℕ) (r : RefT (List ℕ)) : Type 0 where
+  pub numbers : now r ≡ spanOf (now row) first n
+  pub lies : ptr r ≡ spanLies order row first n
+
+-- what the screen is handed: the numbers that it asks for, and where they lie
 pub record Handed (asked : Asked) (blocks order torn : RefT (List ℕ)) (place : ℕ) (r : RefT (List ℕ)) : Type 0 where
   pub numbers : now r ≡ partOf asked (now blocks) (now order) (now torn) place
   pub lies : ptr r ≡ partLies asked (now blocks) order torn place

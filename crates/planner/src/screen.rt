@@ -1,16 +1,9 @@
 // The part of the order row or of the torn row that a screen asks for. The rows are lent as they came, of any length and content: a
 // block's record is read only where it lies wholly in its row, and spans are added up as `usize`, where two numbers of 16 bits never wrap.
 ghost use mathlib.Core.Path.{_≡_};
-ghost use Prim.Native.Nat.{_+_, _≤_, _<_};
-ghost use lib.ListN.{length, getD};
-ghost use Rattle.planner.specs.Part.{Handed};
+ghost use Prim.Native.Nat.{_<_};
+ghost use Rattle.planner.specs.Part.{Spanned, Handed};
 use crate::Asked;
-
-// A part of a row: its first place, and the place after its last.
-struct Span {
-    first: usize,
-    end: usize,
-}
 
 fn wide(number: u16) -> usize
     ensures { λ r. ⌜ (r ≡ number) × (r < 65536) ⌝ }
@@ -18,17 +11,16 @@ fn wide(number: u16) -> usize
     number as usize
 }
 
-// The span that two numbers of a record give, the first place and how many.
-fn span_at(blocks: &[u16], at: usize) -> Span
-    requires { ⌜ at + 2 ≤ length (now blocks) ⌝ }
-    ensures first { λ r. ⌜ r .first ≡ getD (now (blocks .entry)) at 0 ⌝ }
-    ensures end { λ r. ⌜ r .end ≡ getD (now (blocks .entry)) at 0 + getD (now (blocks .entry)) (at + 1) 0 ⌝ }
+// The part of a row that starts at `first` and has `count` numbers, or the empty front of the order row where it runs beyond the row.
+fn span<'a>(order: &'a [u16], row: &'a [u16], first: u16, count: u16) -> &'a [u16]
+    ensures { λ r. ⌜ Spanned (order .entry) (row .entry) first count r ⌝ }
 {
-    let first = wide(blocks[at]);
-    let count = wide(blocks[at + 1]);
-    Span {
-        first: first,
-        end: first + count,
+    let start = wide(first);
+    let end = start + wide(count);
+    if end <= row.len() {
+        &row[start..end]
+    } else {
+        &order[..0]
     }
 }
 
@@ -48,25 +40,7 @@ pub fn part<'a>(
         return &order[..0];
     }
     match asked {
-        Asked::Units => {
-            let span = span_at(blocks, at);
-            let first = span.first;
-            let end = span.end;
-            if end <= order.len() {
-                &order[first..end]
-            } else {
-                &order[..0]
-            }
-        }
-        Asked::Tears => {
-            let span = span_at(blocks, at + 2);
-            let first = span.first;
-            let end = span.end;
-            if end <= torn.len() {
-                &torn[first..end]
-            } else {
-                &order[..0]
-            }
-        }
+        Asked::Units => span(order, order, blocks[at], blocks[at + 1]),
+        Asked::Tears => span(order, torn, blocks[at + 2], blocks[at + 3]),
     }
 }

@@ -1,11 +1,9 @@
--- `planner::screen::part` meets its contract: at each `return` the tests that led there say which way out it is, and the record of the block
--- says which part of which row. Assumes nothing.
+-- `planner::screen::part` meets its contract: where the record lies in the block row, the span that it gives is handed on. Assumes nothing.
 use mathlib.Core.Path.{_≡_, refl}
-use Prim.Native.Nat.{_*_}
 use native.Mathlib.Omega.{arith}
-use borrow.Author.Needs.{needs}
 use Rattle.planner.specs.declared.Asked.the-variants.{Units, Tears}
-use Rattle.planner.proofs.Spans.{units-say, tears-say, no-record, in-row, beyond-row}
+use Rattle.planner.proofs.Spans.{no-record, units, tears}
+use borrow.Author.Needs.{needs}
 use Rattle.planner.proofs.screen.part.Statement.{statement}
 use Rattle.planner.proofs.screen.part.Tie as tie
 
@@ -23,90 +21,69 @@ slice-aggregate-result c = search needs
 
 returns : tie.Need-returns
 returns c =
-    let st = c .before .before .before .before .before .before in
-    let a = st .args in
-    no-record (a .asked) (a .blocks) (a .order) (a .torn) _ (a .place) (omega arith) refl refl
+    let a = c .before .before .before .before .before .before .args in
+    no-record (a .blocks) (a .order) (a .torn) _ (a .place) (a .asked) (omega arith) refl refl
 
 enum-told : tie.Need-enum-told
 enum-told c = search needs
 
-span-at-requires : tie.Need-span-at-requires
-span-at-requires c κs = search needs
+mul-span : tie.Need-mul-span
+mul-span c = search needs
 
-mul-result : tie.Need-mul-result
-mul-result c = search needs
+shared-slice-read-span : tie.Need-shared-slice-read-span
+shared-slice-read-span c = search needs
 
-sub-result : tie.Need-sub-result
-sub-result c = search needs
+add-span : tie.Need-add-span
+add-span c = search needs
 
-part-result-start : tie.Need-part-result-start
-part-result-start c = search needs
+mul-span-2 : tie.Need-mul-span-2
+mul-span-2 c = search needs
 
-part-result-end : tie.Need-part-result-end
-part-result-end c = search needs
+shared-slice-read-span-2 : tie.Need-shared-slice-read-span-2
+shared-slice-read-span-2 c = search needs
 
-slice-aggregate-result-2 : tie.Need-slice-aggregate-result-2
-slice-aggregate-result-2 c = search needs
+span-requires : tie.Need-span-requires
+span-requires c κs = search needs
 
 enum-told-2 : tie.Need-enum-told-2
 enum-told-2 c = search needs
 
-add-span-at : tie.Need-add-span-at
-add-span-at c = search needs
+add-span-2 : tie.Need-add-span-2
+add-span-2 c = search needs
 
-span-at-requires-2 : tie.Need-span-at-requires-2
-span-at-requires-2 c κs = search needs
+mul-span-3 : tie.Need-mul-span-3
+mul-span-3 c = search needs
 
-mul-result-2 : tie.Need-mul-result-2
-mul-result-2 c = search needs
+shared-slice-read-span-3 : tie.Need-shared-slice-read-span-3
+shared-slice-read-span-3 c = search needs
 
-sub-result-2 : tie.Need-sub-result-2
-sub-result-2 c = search needs
+add-span-3 : tie.Need-add-span-3
+add-span-3 c = search needs
 
-part-result-start-2 : tie.Need-part-result-start-2
-part-result-start-2 c = search needs
+mul-span-4 : tie.Need-mul-span-4
+mul-span-4 c = search needs
 
-part-result-end-2 : tie.Need-part-result-end-2
-part-result-end-2 c = search needs
+shared-slice-read-span-4 : tie.Need-shared-slice-read-span-4
+shared-slice-read-span-4 c = search needs
 
-slice-aggregate-result-3 : tie.Need-slice-aggregate-result-3
-slice-aggregate-result-3 c = search needs
+span-requires-2 : tie.Need-span-requires-2
+span-requires-2 c κs = search needs
 
 returns-2 : tie.Need-returns-2
 returns-2 c =
+    let at = c .before .before .before .before .before .before .wide in
     let a = c .before .before .before .before .before .before .before .before .before .before .args in
-    let w = c .before .before .before .before .before .before .wide in
-    let s = c .before .before .span-at in
-    let says = units-say (a .blocks) (a .order) (a .torn) (4 * w .result) (s .result .first) (s .result .end) (s .ensures .0) (s .ensures .1) in
     let e : a .asked ≡ Units = c .before .before .before .enum-told .given .1 in
-    rw (e, ← w .ensures .0) (in-row Units (a .blocks) (a .order) (a .torn) _ (w .result) (c .before .before .before .before .before .if1 .left) says (c .before .if2 .taken) refl refl)
+    rw (e, ← at .ensures .0)
+    (units (a .blocks) (a .order) (a .torn) _ (at .result) (c .before .before .before .before .before .if1 .left) (c .span .ensures))
 
 returns-3 : tie.Need-returns-3
 returns-3 c =
+    let at = c .before .before .before .before .before .before .wide in
     let a = c .before .before .before .before .before .before .before .before .before .before .args in
-    let w = c .before .before .before .before .before .before .wide in
-    let s = c .before .before .span-at in
-    let says = units-say (a .blocks) (a .order) (a .torn) (4 * w .result) (s .result .first) (s .result .end) (s .ensures .0) (s .ensures .1) in
-    let e : a .asked ≡ Units = c .before .before .before .enum-told .given .1 in
-    rw (e, ← w .ensures .0) (beyond-row Units (a .blocks) (a .order) (a .torn) _ (w .result) (c .before .before .before .before .before .if1 .left) says (c .before .if2 .left) refl refl)
-
-returns-4 : tie.Need-returns-4
-returns-4 c =
-    let a = c .before .before .before .before .before .before .before .before .before .before .args in
-    let w = c .before .before .before .before .before .before .wide in
-    let s = c .before .before .span-at2 in
-    let says = tears-say (a .blocks) (a .order) (a .torn) (4 * w .result) (s .result .first) (s .result .end) (s .ensures .0) (s .ensures .1) in
     let e : a .asked ≡ Tears = c .before .before .before .enum-told2 .given .1 in
-    rw (e, ← w .ensures .0) (in-row Tears (a .blocks) (a .order) (a .torn) _ (w .result) (c .before .before .before .before .before .if1 .left) says (c .before .if3 .taken) refl refl)
-
-returns-5 : tie.Need-returns-5
-returns-5 c =
-    let a = c .before .before .before .before .before .before .before .before .before .before .args in
-    let w = c .before .before .before .before .before .before .wide in
-    let s = c .before .before .span-at2 in
-    let says = tears-say (a .blocks) (a .order) (a .torn) (4 * w .result) (s .result .first) (s .result .end) (s .ensures .0) (s .ensures .1) in
-    let e : a .asked ≡ Tears = c .before .before .before .enum-told2 .given .1 in
-    rw (e, ← w .ensures .0) (beyond-row Tears (a .blocks) (a .order) (a .torn) _ (w .result) (c .before .before .before .before .before .if1 .left) says (c .before .if3 .left) refl refl)
+    rw (e, ← at .ensures .0)
+    (tears (a .blocks) (a .order) (a .torn) _ (at .result) (c .before .before .before .before .before .if1 .left) (c .span2 .ensures))
 
 pub part-spec : {M : Type 1} → statement M
 part-spec =
@@ -118,21 +95,19 @@ part-spec =
     slice-aggregate-result
     returns
     enum-told
-    span-at-requires
-    mul-result
-    sub-result
-    part-result-start
-    part-result-end
-    slice-aggregate-result-2
+    mul-span
+    shared-slice-read-span
+    add-span
+    mul-span-2
+    shared-slice-read-span-2
+    span-requires
     enum-told-2
-    add-span-at
-    span-at-requires-2
-    mul-result-2
-    sub-result-2
-    part-result-start-2
-    part-result-end-2
-    slice-aggregate-result-3
+    add-span-2
+    mul-span-3
+    shared-slice-read-span-3
+    add-span-3
+    mul-span-4
+    shared-slice-read-span-4
+    span-requires-2
     returns-2
-    returns-3
-    returns-4
-    returns-5)
+    returns-3)
