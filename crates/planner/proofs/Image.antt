@@ -59,6 +59,10 @@ laid : (l xs : List ℕ) → length xs ≤ length l → sets l 0 xs ≡ laidOver
 unfolding laidOver
 laid l xs h = sets-eq xs l 0 (rw zero-add h) ∙ rw zero-add
 
+-- "A plan has at most 1,168 bytes": at most 64 blocks, 64 units and 256 torn streams
+pub at-most : (b u t : ℕ) → b ≤ 256 → u ≤ 64 → t ≤ 256 → imageLength b u t ≤ 1168
+at-most b u t hb hu ht = omega arith
+
 -- a row of numbers that all fit 16 bits
 abbrev pub Fit16 : List ℕ → Type 0
 Fit16 xs = (i : ℕ) → getD xs i 0 < 65536

@@ -1,12 +1,12 @@
 -- The ways out of the screen's part, over plain rows: a span that lies in its row, one that runs beyond it, no such record, and a record's
 -- span. Each test says which case of the definitions holds. Assumes nothing.
-use mathlib.Core.Path.{_≡_}
 use mathlib.Core.List.{List, []}
+use mathlib.Core.Path.{_≡_}
 use Prim.Native.Nat.{ℕ, _+_, _*_, _-_, _≤_, _<_}
 use native.Mathlib.Omega.{arith}
 use borrow.Author.Tests.{le-leb, lt-leb}
-use denote.Ref.{RefT, ptr, now}
 use lib.ListN.{length, getD, take, drop}
+use denote.Ref.{RefT, ptr, now}
 use Rattle.planner.specs.Part.{partOf, partLies, Spanned, Handed}
 use Rattle.planner.specs.declared.Asked.{Asked}
 use Rattle.planner.specs.declared.Asked.the-variants.{Units, Tears}

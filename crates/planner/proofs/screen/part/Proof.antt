@@ -1,9 +1,9 @@
 -- `planner::screen::part` meets its contract: where the record lies in the block row, the span that it gives is handed on. Assumes nothing.
 use mathlib.Core.Path.{_≡_, refl}
 use native.Mathlib.Omega.{arith}
+use borrow.Author.Needs.{needs}
 use Rattle.planner.specs.declared.Asked.the-variants.{Units, Tears}
 use Rattle.planner.proofs.Spans.{no-record, units, tears}
-use borrow.Author.Needs.{needs}
 use Rattle.planner.proofs.screen.part.Statement.{statement}
 use Rattle.planner.proofs.screen.part.Tie as tie
 

@@ -3,8 +3,8 @@
 use mathlib.Core.Path.{refl}
 use Prim.Native.Nat.{_+_}
 use native.Mathlib.Omega.{arith}
-use Rattle.planner.proofs.Spans.{in-row, beyond-row}
 use borrow.Author.Needs.{needs}
+use Rattle.planner.proofs.Spans.{in-row, beyond-row}
 use Rattle.planner.proofs.screen.span.Statement.{statement}
 use Rattle.planner.proofs.screen.span.Tie as tie
 
