@@ -1,8 +1,9 @@
 -- The plan image. "Header, 16 bytes: edition (1), U, block count, torn count, offsets of the block, order and torn tables, total length. The
 -- tables follow in that order without gaps." All of it is 16-bit numbers, so the image is the bytes of a list of numbers.
 use mathlib.Core.List.{List, [], _∷_, _++_}
-use Prim.Native.Nat.{ℕ, _+_, _*_, _/_}
+use Prim.Native.Nat.{ℕ, _+_, _*_, _/_, _≤_}
 use lib.ListN.{length, drop}
+use lib.Seq.{sets}
 use Rattle.flowsheet.specs.Written.{flat}
 use Rattle.words.specs.Words.{bytesOf}
 use Rattle.planner.specs.Tables.{heldNumbers}
@@ -23,6 +24,20 @@ planNumbers blocks order torn = planHeader (length blocks) (length order) (lengt
 unfoldable pub planBytes : Plan → List ℕ
 planBytes p = flat (bytesOf 2) (planNumbers (heldNumbers (p .blocks)) (heldNumbers (p .order)) (heldNumbers (p .torn)))
 
+-- the row l with numbers of 16 bits stored one after the other from the byte i on
+abbrev pub withNumbers : List ℕ → ℕ → List ℕ → List ℕ
+withNumbers l i xs = sets l i (flat (bytesOf 2) xs)
+
 -- a lent buffer with these bytes at its front: "Bytes of the lent buffer beyond it stay"
 unfoldable pub laidOver : List ℕ → List ℕ → List ℕ
 laidOver bytes buffer = bytes ++ drop (length bytes) buffer
+
+-- each table counts no more numbers than it has places
+pub record Counted (p : Plan) : Type 0 where
+  pub blocks : p .blocks .count ≤ 256
+  pub order : p .order .count ≤ 256
+  pub torn : p .torn .count ≤ 256
+
+-- how many bytes the image of this plan has
+abbrev pub planLength : Plan → ℕ
+planLength p = imageLength (p .blocks .count) (p .order .count) (p .torn .count)

@@ -1,7 +1,11 @@
 // The plan of a flowsheet, its image, and the part of it that a screen asks for.
 mod block;
 mod links;
+mod screen;
 mod sheet;
+mod written;
+
+pub use screen::part;
 
 // At most 256 numbers of 16 bits; the places beyond the count are zero.
 pub struct Numbers {
