@@ -95,3 +95,7 @@ pub reading-good : (l : List ℕ) → readingOf l .number ≡ 0
 reading-good l e =
     let a : answerOf l ≡ 0 = sym (reading-number l) ∙ e in
     (ap (λ (r : Reading). r .sheet) (reading-accepted l a), accepted-good l (is-accepted l a))
+
+-- its number is the answer of the table
+pub reading-is : (l : List ℕ) → readingOf l .number ≡ answerOf l
+reading-is l = reading-number l

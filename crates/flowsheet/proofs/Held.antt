@@ -64,3 +64,11 @@ held-streams-at s i h = getD-take (s .count) (s .records) i noStream h
 -- a unit that is found stands below the count
 pub place-counted : (u : Units) (n i : ℕ) (p : Place) → p ≡ placeOf (heldUnits u) n → p ≡ At i → i < u .count
 place-counted u n i p e f = omega (arith, place-found (heldUnits u) n i (sym e ∙ f) .0, held-counted u)
+
+-- a flowsheet of some units and streams holds them
+pub sheet-held : (us : List ℕ) (ss : List Stream) (f : Flowsheet) → f ≡ sheetOf us ss → (heldUnits (f .units) ≡ us) × (heldStreams (f .streams) ≡ ss)
+unfolding sheetOf
+sheet-held us ss f e = (
+  ap (λ (x : Flowsheet). heldUnits (x .units)) e ∙ held-units us,
+  ap (λ (x : Flowsheet). heldStreams (x .streams)) e ∙ held-streams ss,
+)

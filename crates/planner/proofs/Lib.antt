@@ -19,3 +19,4 @@ pub mod SettledImage
 mod Spans
 mod Turns
 mod Sorting
+mod Answers

@@ -2,7 +2,7 @@
 pub mod Links
 pub mod Plan
 pub mod Tables
-pub mod Answer
 pub mod Image
+pub mod Answer
 pub mod Part
 pub mod Demand2

@@ -1,11 +1,14 @@
 // The plan of a flowsheet, its image, and the part of it that a screen asks for.
 mod block;
 mod links;
+mod planning;
 mod screen;
 mod sheet;
 mod written;
 
+pub use planning::plan_image;
 pub use screen::part;
+pub use sheet::plan_of;
 
 // At most 256 numbers of 16 bits; the places beyond the count are zero.
 pub struct Numbers {

@@ -19,7 +19,7 @@ ghost use Rattle.flowsheet.specs.Sheet.{unitsOf, heldUnits, heldStreams};
 ghost use Rattle.flowsheet.specs.Good.{GoodSheet};
 ghost use Rattle.planner.specs.Plan.{unitsIn, orderedOf, tornOf, anyOver, planOf};
 ghost use Rattle.planner.specs.Tables.{numbersOf, heldNumbers, Tidy, withBlock, planValue};
-ghost use Rattle.planner.specs.Answer.{plannedOf, workAfter, Sorted};
+ghost use Rattle.planner.specs.Answer.{refusedPlan, plannedOf, workAfter, Spent, Sorted};
 
 // A table of no numbers.
 fn no_numbers() -> Numbers
@@ -117,4 +117,56 @@ fn plan_blocks(sheet: Flowsheet, reach: &[u64; 64], order: BlockOrder, work: &mu
         k += 1;
     }
     plan
+}
+
+// A refusal under that number.
+pub fn refused(number: u32) -> Planned
+    ensures { λ r. ⌜ r ≡ refusedPlan number ⌝ }
+{
+    Planned {
+        number,
+        plan: no_plan(),
+    }
+}
+
+// The plan of a flowsheet, or 11, or 12 where the working memory is short. It leaves the memory uncleared.
+pub fn planned(sheet: Flowsheet, work: &mut [u8]) -> Planned
+    requires { ⌜ GoodSheet sheet ⌝ }
+    ensures answer { λ r. ⌜ r ≡ plannedOf (heldUnits (sheet .units)) (heldStreams (sheet .streams)) (length (now (work .entry))) ⌝ }
+    ensures work { λ _. ⌜ Spent (now (work .entry)) (now (work .exit)) ⌝ }
+{
+    let units = sheet.units;
+    let streams = sheet.streams;
+    let n = units.count;
+    let reach = blocks::reach(links::links_of(units, streams));
+    let order = blocks::order(&reach, n);
+    if any_large(&reach, n, order) {
+        return refused(11);
+    }
+    if work.len() < 65536 {
+        return refused(12);
+    }
+    let plan = plan_blocks(sheet, &reach, order, work);
+    Planned { number: 0, plan }
+}
+
+// Clears the first 65,536 bytes of a working memory that has as many; a shorter one stays as it was.
+pub fn clear_work(work: &mut [u8])
+    ensures { λ _. ⌜ now (work .exit) ≡ workAfter (now (work .entry)) ⌝ }
+{
+    if 65536 <= work.len() {
+        words::clear_front(work, 65536);
+    }
+}
+
+// Plans a flowsheet that could have been read: 0 and the plan, or 11, or 12 where the working memory is under 65,536 bytes. The
+// memory is left as rule 5 says.
+pub fn plan_of(sheet: Flowsheet, work: &mut [u8]) -> Planned
+    requires { ⌜ GoodSheet sheet ⌝ }
+    ensures answer { λ r. ⌜ r ≡ plannedOf (heldUnits (sheet .units)) (heldStreams (sheet .streams)) (length (now (work .entry))) ⌝ }
+    ensures work { λ _. ⌜ now (work .exit) ≡ workAfter (now (work .entry)) ⌝ }
+{
+    let answer = planned(sheet, work);
+    clear_work(work);
+    answer
 }
