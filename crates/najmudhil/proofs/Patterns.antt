@@ -1,6 +1,6 @@
 -- Doubles and their bit patterns, where the kit's library has no such law. Assumes nothing.
-use mathlib.Core.Path.{_≡_, refl, sym, subst}
 use mathlib.Core.Bool.{true, false, not}
+use mathlib.Core.Path.{_≡_, refl, sym, subst}
 use lib.Dec.{T}
 use lib.Ieee.{Float, nan, inf, fin, binary64, ofBits, div, ne, isNan}
 use Rattle.converge.specs.Doubles.{zero64}

@@ -1,6 +1,6 @@
 -- The statement settles everything: two results that it allows are equal, with every byte that was lent. Assumes nothing.
-use mathlib.Core.Path.{_≡_, sym, _∙_}
 use mathlib.Core.List.{List}
+use mathlib.Core.Path.{_≡_, sym, _∙_}
 use Prim.Native.Nat.{ℕ}
 use Rattle.najmudhil.specs.Step.{Lent, BytesStep}
 

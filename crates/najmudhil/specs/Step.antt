@@ -1,16 +1,16 @@
 -- The step of one value with all that is lent as bytes: what it returns, and every byte after it.
-use mathlib.Core.Path.{_≡_}
 use mathlib.Core.Bool.{Bool, not, cond, _||_}
 use mathlib.Core.List.{List, [], _∷_}
+use mathlib.Core.Path.{_≡_}
 use Prim.Native.Nat.{ℕ, _+_}
 use lib.Dec.{eqb}
-use lib.ListN.{length, set}
 use lib.Ieee.{Float, binary64, ofBits, toBits}
-use Rattle.words.specs.Words.{numberAt, withNumber}
+use lib.ListN.{length, set}
 use Rattle.converge.specs.Answer.{Answer}
-use Rattle.converge.specs.Row.{Stepped}
 use Rattle.converge.specs.Promise.{valueStepped}
+use Rattle.converge.specs.Row.{Stepped}
 use Rattle.converge.specs.declared.History.{History}
+use Rattle.words.specs.Words.{numberAt, withNumber}
 use Rattle.najmudhil.specs.declared.Numbered.{Numbered}
 
 -- The double in the 8 bytes from a place on. What is a NaN's pattern holds no number.
@@ -54,7 +54,7 @@ abbrev pub lent : ℕ → List ℕ → List ℕ → List ℕ → List ℕ → Le
 lent code x past count answer = record { code = code; x = x; past = past; count = count; answer = answer }
 
 -- The step returns 0, or a refusal's number with all of these unchanged. On Moved the next value is written over x, the record takes
--- this x and y, and the count is one more; at every other verdict the answer alone is written.
+-- this x and y, and the count is one more; at every other verdict the answer alone is written, and the other bytes stay as they are.
 unfoldable pub leaves : Stepped → List ℕ → List ℕ → List ℕ → List ℕ → Lent
 leaves s x past count answer =
     cond (eqb (s .answer .refusal) 0)

@@ -134,7 +134,8 @@ fn put_answer(answer: &mut [u8], number: u8, carried: f64)
     put_double(answer, 1, carried);
 }
 
-// Writes what Moved changes: x takes the next value, the record its x and then its y, and the count the new one.
+// Writes what Moved changes: x takes the next value, the record its x and then its y, and the count the new one. The record's x is
+// written from the double: an accepted x is a number, whose pattern is the 8 bytes that it was read from.
 fn put_moved(x: &mut [u8], past: &mut [u8], count: &mut [u8], step: Step)
     requires { ⌜ (8 ≤ length (now x)) × (16 ≤ length (now past)) × (2 ≤ length (now count)) ⌝ }
     ensures x { λ _. ⌜ now (x .exit) ≡ withDoubles (now (x .entry)) 0 (step .x ∷ []) ⌝ }

@@ -1,9 +1,9 @@
 -- `najmudhil::najmudhil_step` meets its contract: its four ways out are those of `Lent`. Assumes nothing.
-use mathlib.Core.Path.{refl, sym, _∙_}
+use mathlib.Core.Path.{sym, _∙_}
 use native.Mathlib.Omega.{arith}
 use borrow.Author.Needs.{needs}
 use lib.ListN.{length}
-use Rattle.najmudhil.proofs.Lent.{lengths-right, bytes-short, bytes-refused, bytes-kept, bytes-moved}
+use Rattle.najmudhil.proofs.Lent.{lengths-right, out-short, out-refused, out-kept, out-moved}
 use Rattle.najmudhil.proofs.najmudhil_step.Statement.{statement}
 use Rattle.najmudhil.proofs.najmudhil_step.Tie as tie
 
@@ -13,7 +13,7 @@ lengths-wrong-requires c κs = search needs
 returns : tie.Need-returns
 returns c =
     let a = c .before .before .before .before .before .before .args in
-    bytes-short (a .x .now) (a .y) (a .past .now) (a .count .now) (a .method) (a .tolerance) (a .limit) (a .answer .now) (sym (c .before .lengths-wrong .ensures) ∙ c .if1 .taken)
+    out-short (a .x .now) (a .y) (a .past .now) (a .count .now) (a .method) (a .tolerance) (a .limit) (a .answer .now) (sym (c .before .lengths-wrong .ensures) ∙ c .if1 .taken)
 
 held-step-requires : tie.Need-held-step-requires
 held-step-requires c κs =
@@ -40,7 +40,7 @@ returns-2 c =
     let s = h .before in
     let t = s .before .before .before .before in
     let a = t .before .before .before .before .before .before .args in
-    bytes-refused (a .x .now) (a .y) (a .past .now) (a .count .now) (a .method) (a .tolerance) (a .limit) (a .answer .now) (sym (t .before .lengths-wrong .ensures) ∙ t .if1 .left)
+    out-refused (a .x .now) (a .y) (a .past .now) (a .count .now) (a .method) (a .tolerance) (a .limit) (a .answer .now) (sym (t .before .lengths-wrong .ensures) ∙ t .if1 .left)
     (s .held-step .result) (s .held-step .ensures) (h .numbers-of .result) (h .numbers-of .ensures) (c .if2 .taken)
 
 put-answer-requires : tie.Need-put-answer-requires
@@ -71,7 +71,7 @@ returns-3 c =
     let t = s .before .before .before .before in
     let a = t .before .before .before .before .before .before .args in
     rw (q .put-answer .ensures)
-    (bytes-kept (a .x .now) (a .y) (a .past .now) (a .count .now) (a .method) (a .tolerance) (a .limit) (a .answer .now) (sym (t .before .lengths-wrong .ensures) ∙ t .if1 .left)
+    (out-kept (a .x .now) (a .y) (a .past .now) (a .count .now) (a .method) (a .tolerance) (a .limit) (a .answer .now) (sym (t .before .lengths-wrong .ensures) ∙ t .if1 .left)
     (s .held-step .result) (s .held-step .ensures) (h .numbers-of .result) (h .numbers-of .ensures) (u .if2 .left) (c .if3 .taken))
 
 put-moved-requires : tie.Need-put-moved-requires
@@ -105,7 +105,7 @@ returns-4 c =
     let a = t .before .before .before .before .before .before .args in
     let e = m .put-moved .ensures in
     rw (q .put-answer .ensures, e .0, e .1 .0, e .1 .1)
-    (bytes-moved (a .x .now) (a .y) (a .past .now) (a .count .now) (a .method) (a .tolerance) (a .limit) (a .answer .now) (sym (t .before .lengths-wrong .ensures) ∙ t .if1 .left)
+    (out-moved (a .x .now) (a .y) (a .past .now) (a .count .now) (a .method) (a .tolerance) (a .limit) (a .answer .now) (sym (t .before .lengths-wrong .ensures) ∙ t .if1 .left)
     (s .held-step .result) (s .held-step .ensures) (h .numbers-of .result) (h .numbers-of .ensures) (u .if2 .left) (i .if3 .left))
 
 pub najmudhil-step-spec : {M : Type 1} → statement M

@@ -1,11 +1,11 @@
 -- `najmudhil::of_pattern` meets its contract: a pattern above that of an infinity, its sign aside, is a NaN's, and no other is. Assumes nothing.
-use mathlib.Core.Path.{sym, _∙_, subst}
 use mathlib.Core.Bool.{Bool, not}
+use mathlib.Core.Path.{sym, _∙_, subst}
+use borrow.Author.Needs.{needs}
+use borrow.Author.Tests.{lt-ltb, le-ltb}
 use lib.Dec.{T}
 use lib.Ieee.{binary64}
 use lib.Ieee.Bits.{nanBits-is, nanBits-above}
-use borrow.Author.Needs.{needs}
-use borrow.Author.Tests.{lt-ltb, le-ltb}
 use Rattle.najmudhil.proofs.Patterns.{is-nan, zero-over-zero}
 use Rattle.najmudhil.proofs.of_pattern.Statement.{statement}
 use Rattle.najmudhil.proofs.of_pattern.Tie as tie

@@ -1,10 +1,10 @@
 -- `najmudhil::pattern` meets its contract: what differs from itself is a NaN. Assumes nothing.
-use mathlib.Core.Path.{_≡_, sym, subst, refl}
+use mathlib.Core.Path.{_≡_, refl, sym, subst}
 use Prim.Native.Nat.{ℕ}
+use borrow.Author.Needs.{needs}
 use lib.Dec.{T}
 use lib.Ieee.{Float, binary64, toBits}
 use lib.Ieee.Compare.{differs-from-itself}
-use borrow.Author.Needs.{needs}
 use Rattle.najmudhil.proofs.Patterns.{same-number}
 use Rattle.najmudhil.proofs.pattern.Statement.{statement}
 use Rattle.najmudhil.proofs.pattern.Tie as tie

@@ -1,8 +1,8 @@
 -- `najmudhil::put_answer` meets its contract. Assumes nothing.
 use mathlib.Core.Path.{_∙_, ap}
+use borrow.Author.Needs.{needs}
 use lib.ListN.{length, length-set}
 use Rattle.words.proofs.Numbers.{length-with}
-use borrow.Author.Needs.{needs}
 use Rattle.najmudhil.proofs.put_answer.Statement.{statement}
 use Rattle.najmudhil.proofs.put_answer.Tie as tie
 
