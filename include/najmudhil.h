@@ -4,12 +4,12 @@
  *
  * What holds of both functions:
  *
- *  - Every row of bytes is a pointer and then its length in bytes. A length is tested before a byte is read or
- *    written, and bytes of any content are answered.
+ *  - Every row of bytes is a pointer and then its length in bytes. Rows of any length and content are answered; no
+ *    byte beyond a length is read or written.
  *  - A pointer points to as many bytes as the length after it says; where that is 0 it may have any value, NULL too.
  *  - The rows of one call don't overlap. No alignment is asked for.
  *  - Numbers in bytes are little-endian: the low byte first. A double is the 8 bytes of its IEEE 754 pattern.
- *  - The answer is 0, or the number of a refusal: of the reasons that hold, the first in the order given below.
+ *  - What is returned is 0, or the number of a refusal: of those that hold, the first in the order given below.
  *  - Nothing is kept between calls and nothing is allocated, so calls on rows of their own may run at one time.
  *  - The step computes in doubles, one rounding for each operation: call it with rounding to nearest and subnormal
  *    numbers kept, as a C program starts.
@@ -59,7 +59,8 @@ extern "C" {
  *   11   a block over 12 units
  *   12   `plan` shorter than the plan, or `work` under 65,536 bytes
  */
-uint32_t najmudhil_plan(const uint8_t *image, size_t image_len, uint8_t *plan, size_t plan_len, uint8_t *work, size_t work_len);
+uint32_t najmudhil_plan(const uint8_t *image, size_t image_len, uint8_t *plan, size_t plan_len, uint8_t *work,
+                        size_t work_len);
 
 /* ---------------------------------------------------------------------------------------- convergence step */
 
@@ -104,7 +105,9 @@ uint32_t najmudhil_plan(const uint8_t *image, size_t image_len, uint8_t *plan, s
  *   33   x or y not finite (a NaN too) or beyond 1e12 in size
  *   34   count over limit, or at a count over 0 a value of the record not finite (a NaN too) or beyond 1e12 in size
  */
-uint32_t najmudhil_step(uint8_t *x, size_t x_len, double y, uint8_t *record, size_t record_len, uint8_t *count, size_t count_len, uint32_t method, double tolerance, uint32_t limit, uint8_t *answer, size_t answer_len);
+uint32_t najmudhil_step(uint8_t *x, size_t x_len, double y, uint8_t *record, size_t record_len, uint8_t *count,
+                        size_t count_len, uint32_t method, double tolerance, uint32_t limit, uint8_t *answer,
+                        size_t answer_len);
 
 #ifdef __cplusplus
 }
