@@ -1,0 +1,2 @@
+-- The definitions that the contracts of what the C program calls cite.
+pub mod Step
