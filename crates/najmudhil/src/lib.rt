@@ -6,6 +6,7 @@ ghost use Prim.Native.Nat.{_+_, _≤_};
 ghost use lib.ListN.{length, set};
 ghost use lib.Ieee.{binary64, ofBits, toBits};
 ghost use Rattle.words.specs.Words.{withNumber};
+ghost use Rattle.planner.specs.Answer.{Planning};
 ghost use Rattle.converge.specs.Answer.{answerOf};
 ghost use Rattle.converge.specs.Promise.{ValueStep};
 ghost use Rattle.najmudhil.specs.Step.{doubleAt, valuesOf, withDoubles, numberedOf, lengthsWrong, heldStep, bytesStepped, BytesStep};
@@ -178,4 +179,13 @@ pub extern "C" fn najmudhil_step(
     }
     put_moved(x, past, count, s);
     0
+}
+
+// Plans the flowsheet in `image` and writes the plan's image to the front of `plan`: 0, or the first of 1 to 12 that the
+// table gives, with `plan` as it stood. The working memory is left as rule 5 says.
+#[no_mangle]
+pub extern "C" fn najmudhil_plan(image: &[u8], plan: &mut [u8], work: &mut [u8]) -> u32
+    ensures { λ r. ⌜ Planning (now (image .entry)) (now (plan .entry)) (now (work .entry)) r (now (plan .exit)) (now (work .exit)) ⌝ }
+{
+    planner::plan_image(image, plan, work)
 }

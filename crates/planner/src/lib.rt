@@ -7,6 +7,7 @@ mod sheet;
 mod written;
 
 pub use planning::plan_image;
+pub use planning::plan_read;
 pub use screen::part;
 pub use sheet::plan_of;
 

@@ -1,3 +1,4 @@
+-- `planner::block::charge` meets its contract. Both ends are found below 12, so the sum has a place; the total rises by the weight. Assumes nothing.
 use Prim.Native.Nat.{ℕ, _+_, _*_}
 use native.Mathlib.Omega.{arith}
 use borrow.Author.Needs.{needs}

@@ -1,3 +1,4 @@
+-- `planner::block::is_torn` meets its contract. Each way out names the places that it came by. Assumes nothing.
 use borrow.Author.Needs.{needs}
 use borrow.Author.Tests.{lt-ltb, le-ltb}
 use Rattle.planner.specs.Plan.{isTorn}

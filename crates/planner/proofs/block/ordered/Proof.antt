@@ -1,3 +1,4 @@
+-- `planner::block::ordered` meets its contract. The order of tearing, in units. Assumes nothing.
 use mathlib.Core.List.{List}
 use mathlib.Core.Path.{_≡_, sym, ap, _∙_}
 use Prim.Native.Nat.{ℕ, _<_}

@@ -1,3 +1,4 @@
+-- `planner::block::row_of` meets its contract. The loop has charged i streams; the total is at most 65,535 for each. The measure is the streams left. Assumes nothing.
 use mathlib.Core.List.{List}
 use mathlib.Core.Path.{_≡_, refl, sym, ap, _∙_}
 use Prim.Native.Nat.{ℕ, _+_, _*_, _-_, _≤_, _<_}

@@ -1,3 +1,4 @@
+-- `planner::block::units_in` meets its contract. The loop has put i units in their places. The measure is the places left. Assumes nothing.
 use mathlib.Core.List.{List, map}
 use mathlib.Core.Path.{_≡_, sym, ap, _∙_}
 use Prim.Native.Nat.{ℕ, _-_, _≤_, _<_}

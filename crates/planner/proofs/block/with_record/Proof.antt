@@ -1,3 +1,4 @@
+-- `planner::block::with_record` meets its contract. Four stores one after the other. Assumes nothing.
 use mathlib.Core.List.{List, [], _∷_}
 use Prim.Native.Nat.{ℕ, _+_}
 use native.Mathlib.Omega.{arith}

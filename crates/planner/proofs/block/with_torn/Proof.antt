@@ -1,3 +1,4 @@
+-- `planner::block::with_torn` meets its contract. The loop has appended what is torn of the first i streams. The measure is the streams left. Assumes nothing.
 use mathlib.Core.Bool.{true, false}
 use mathlib.Core.List.{List, [], _∷_, _++_, append-nil}
 use mathlib.Core.Logic.{⊎-elim}

@@ -1,3 +1,4 @@
+-- `planner::block::with_units` meets its contract. The loop has appended i units. The measure is the units left. Assumes nothing.
 use mathlib.Core.List.{List, [], _∷_, _++_, append-nil}
 use mathlib.Core.Path.{_≡_, sym, ap, _∙_}
 use Prim.Native.Nat.{ℕ, _+_, _-_, _≤_}

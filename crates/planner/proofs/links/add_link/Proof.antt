@@ -1,3 +1,4 @@
+-- `planner::links::add_link` meets its contract. A stream has a link where both its ends have places. Assumes nothing.
 use mathlib.Core.Path.{_≡_, sym, _∙_}
 use native.Mathlib.Omega.{arith}
 use borrow.Author.Needs.{needs}

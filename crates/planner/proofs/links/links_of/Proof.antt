@@ -1,3 +1,4 @@
+-- `planner::links::links_of` meets its contract. The loop has taken the links of i streams; the links of the rest are left. The measure is the streams left. Assumes nothing.
 use mathlib.Core.List.{List}
 use mathlib.Core.Path.{_≡_, refl, sym, ap, _∙_}
 use Prim.Native.Nat.{ℕ, _+_, _-_, _≤_, _<_}

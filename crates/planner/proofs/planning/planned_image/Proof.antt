@@ -1,3 +1,4 @@
+-- `planner::planning::planned_image` meets its contract. Reading, then planning what was read. Assumes nothing.
 use mathlib.Core.Path.{_≡_, sym, ap, _∙_}
 use borrow.Author.Needs.{needs}
 use lib.ListN.{length}

@@ -1,3 +1,4 @@
+-- `planner::planning::write_plan` meets its contract. Each way out names the test that it came by. Assumes nothing.
 use mathlib.Core.Path.{refl}
 use native.Mathlib.Omega.{arith}
 use borrow.Author.Needs.{needs}

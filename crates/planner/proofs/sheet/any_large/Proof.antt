@@ -1,3 +1,4 @@
+-- `planner::sheet::any_large` meets its contract. The loop has passed k blocks that are small; the answer for all is that for the rest. The measure is the blocks left. Assumes nothing.
 use mathlib.Core.List.{List, map}
 use mathlib.Core.Path.{_≡_, refl, sym, _∙_}
 use Prim.Native.Nat.{ℕ, _-_, _≤_, _<_}

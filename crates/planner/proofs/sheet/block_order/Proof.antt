@@ -1,3 +1,4 @@
+-- `planner::sheet::block_order` meets its contract. The members, their units, and the order of those. Assumes nothing.
 use mathlib.Core.List.{List}
 use mathlib.Core.Path.{_≡_, sym, ap, _∙_}
 use Prim.Native.Nat.{_*_, _^_, ℕ, _≤_}

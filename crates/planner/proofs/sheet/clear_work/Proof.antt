@@ -1,3 +1,4 @@
+-- `planner::sheet::clear_work` meets its contract. A long memory is cleared, a short one stays. Assumes nothing.
 use borrow.Author.Needs.{needs}
 use Rattle.planner.proofs.Answers.{work-long, work-short}
 use Rattle.planner.proofs.sheet.clear_work.Statement.{statement}

@@ -1,3 +1,4 @@
+-- `planner::sheet::no_numbers` meets its contract. A row of 256 zeros is the row of no numbers. Assumes nothing.
 use mathlib.Core.List.{List}
 use mathlib.Core.Path.{ap}
 use Prim.Native.Nat.{ℕ}

@@ -1,3 +1,4 @@
+-- `planner::sheet::no_plan` meets its contract. Three tables of no numbers. Assumes nothing.
 use borrow.Author.Needs.{needs}
 use Rattle.planner.specs.Tables.{planValue, blockTable}
 use Rattle.planner.proofs.sheet.no_plan.Statement.{statement}

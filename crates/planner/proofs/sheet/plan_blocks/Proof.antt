@@ -1,3 +1,4 @@
+-- `planner::sheet::plan_blocks` meets its contract. The loop has planned k blocks; the memory is as long as it was, and as it was beyond its first 65,536 bytes. The measure is the blocks left. Assumes nothing.
 use mathlib.Core.List.{List}
 use mathlib.Core.Path.{_≡_, refl, ap, _∙_}
 use Prim.Native.Nat.{ℕ, _-_, _≤_, _<_}

@@ -1,3 +1,4 @@
+-- `planner::sheet::plan_of` meets its contract. The answer, with the memory cleared after it. Assumes nothing.
 use mathlib.Core.Path.{_∙_}
 use borrow.Author.Needs.{needs}
 use Rattle.planner.proofs.Answers.{spent-cleared}

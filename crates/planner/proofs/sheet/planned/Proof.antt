@@ -1,3 +1,4 @@
+-- `planner::sheet::planned` meets its contract. Reach, order, then 11, then 12, then the plan. Assumes nothing.
 use mathlib.Core.List.{List}
 use mathlib.Core.Path.{_≡_, sym, ap, _∙_}
 use Prim.Native.Nat.{ℕ}

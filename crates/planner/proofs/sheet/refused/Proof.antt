@@ -1,3 +1,4 @@
+-- `planner::sheet::refused` meets its contract. A refusal holds an empty plan. Assumes nothing.
 use borrow.Author.Needs.{needs}
 use Rattle.planner.proofs.sheet.refused.Statement.{statement}
 use Rattle.planner.proofs.sheet.refused.Tie as tie

@@ -1,3 +1,4 @@
+-- `planner::sheet::with_block` meets its contract. The tables, each with its part of the block after what it holds. Assumes nothing.
 use mathlib.Core.List.{List, [], _∷_, _++_}
 use mathlib.Core.Path.{_≡_, sym, ap, _∙_}
 use Prim.Native.Nat.{ℕ, _+_, _-_}
