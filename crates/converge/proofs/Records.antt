@@ -5,15 +5,15 @@ use mathlib.Core.List.{List, [], _∷_, map, _++_}
 use Prim.Native.Nat.{ℕ, zero, suc, _+_, _<_, _≤_}
 use native.Mathlib.Omega.{arith}
 use lib.Dec.{eqb, ltb}
-use lib.ListN.{length, getD, set, take, replicate, length-set, length-replicate, List·getD-map, length-map}
+use lib.ListN.{length, getD, set, take, length-set, length-replicate, List·getD-map, length-map}
 use lib.Ieee.{Float, nan}
 use lib.Seq.{take-suc, take-suc-set, take-length, getD-take}
-use borrow.Author.Tests.{eqb-true, eqb-false, ltb-true, ltb-false, eq-eqb, ne-eqb}
+use borrow.Author.Tests.{eqb-true, eqb-false, ltb-true, ltb-false}
 use Rattle.converge.specs.Doubles.{zero64}
-use Rattle.converge.specs.Answer.{Answer, answerOf, refused}
+use Rattle.converge.specs.Answer.{Answer, refused}
 use Rattle.converge.specs.Row.{Stepped, kept, after, stepped, verdictOf, refusalOf, rowsWrong, recordsOf}
-use Rattle.converge.specs.Promise.{Rows, RowStep, rowsOf, rowsStepped}
-use Rattle.converge.specs.Pasts.{blank, pastAt, readableOf, rewrittenOf, arrayOf, pastsOf, writtenOf, PastsStep, HistoryStep}
+use Rattle.converge.specs.Promise.{Rows, HistoryStep, rowsOf, rowsStepped}
+use Rattle.converge.specs.Pasts.{blank, pastAt, readableOf, rewrittenOf, arrayOf, pastsOf, writtenOf, PastsStep}
 use Rattle.converge.specs.declared.History.{History}
 use Rattle.converge.specs.declared.Pasts.{Pasts}
 use Rattle.converge.specs.declared.Rewrite.{Rewrite}
@@ -22,7 +22,7 @@ use Rattle.converge.proofs.Rows.{records-length}
 use Rattle.converge.proofs.Lent.{rows-level, stepped-answer, stepped-kept, stepped-moved}
 use Rattle.converge.proofs.Verdicts.{moved-accepted}
 
--- ---- reading
+-- ---- reading: the first n records, one field of each
 
 map-append : (f : History → Float) (a b : List History) → map f (a ++ b) ≡ map f a ++ map f b
 map-append f [] b = refl
@@ -33,7 +33,7 @@ unfolding arrayOf
 array-long f hs zero = length-replicate 16 zero64
 array-long f hs (suc k) = length-set (arrayOf f hs k) k (f (getD hs k blank)) ∙ array-long f hs k
 
-pub array-first : (f : History → Float) (hs : List History) (n : ℕ) → n ≤ length hs → n ≤ 16 → take n (arrayOf f hs n) ≡ map f (take n hs)
+array-first : (f : History → Float) (hs : List History) (n : ℕ) → n ≤ length hs → n ≤ 16 → take n (arrayOf f hs n) ≡ map f (take n hs)
 unfolding arrayOf
 array-first f hs zero l few = refl
 array-first f hs (suc k) l few =
@@ -51,7 +51,7 @@ unfolding recordsOf
 records-back [] = refl
 records-back (p ∷ hs) = ap (λ (l : List History). p ∷ l) (records-back hs)
 
--- ---- writing
+-- ---- writing: a row with its first n records written is half done, and all done at its length
 
 written-half : (hs goal : List History) (p : Pasts) (n : ℕ) → n ≤ length hs → ((k : ℕ) → k < n → pastAt p k ≡ getD goal k blank)
     → Half blank hs (writtenOf hs p n) goal n
@@ -76,21 +76,15 @@ written-all hs goal p e ex ey = half-all (written-half hs goal p (length hs) (om
 
 -- ---- how many are read and written
 
-pub readable-few : (m : ℕ) → readableOf m ≤ 16
-readable-few m = go (ltb 16 m) refl
+pub readable-bounds : (m : ℕ) → (readableOf m ≤ 16) × (readableOf m ≤ m)
+readable-bounds m = go (ltb 16 m) refl
   where
-    go : (b : Bool) → ltb 16 m ≡ b → readableOf m ≤ 16
-    go true e = let z : readableOf m ≡ 0 = rw e in omega arith
+    go : (b : Bool) → ltb 16 m ≡ b → (readableOf m ≤ 16) × (readableOf m ≤ m)
+    go true e = let z : readableOf m ≡ 0 = rw e in (omega arith, omega arith)
     go false e =
         let z : readableOf m ≡ m = rw e in
-        let l : m ≤ 16 = ltb-false _ _ e in omega arith
-
-pub readable-within : (m : ℕ) → readableOf m ≤ m
-readable-within m = go (ltb 16 m) refl
-  where
-    go : (b : Bool) → ltb 16 m ≡ b → readableOf m ≤ m
-    go true e = let z : readableOf m ≡ 0 = rw e in omega arith
-    go false e = let z : readableOf m ≡ m = rw e in omega arith
+        let l : m ≤ 16 = ltb-false _ _ e in
+        (omega arith, omega arith)
 
 pub rewritten-within : (a : Answer) (n : ℕ) → rewrittenOf a n ≤ n
 rewritten-within a n = go (eqb (a .number) 4) refl
@@ -119,7 +113,7 @@ wrong-kept : (x y : List Float) (past : List History) (count method : ℕ) (tole
 unfolding stepped after verdictOf refusalOf
 wrong-kept x y past count method tolerance limit e = rw e
 
--- ---- the step
+-- ---- the step: what reading, stepping by value and writing ensure is what the step over the records promises
 
 module _ (x y : List Float) (hs : List History) (count method : ℕ) (tolerance : Float) (limit : ℕ) (r : Rewrite) (x′ : List Float) (hs′ : List History) (count′ : ℕ) where
   abbrev S : Stepped

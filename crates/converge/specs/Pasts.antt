@@ -1,4 +1,4 @@
--- The step with the records lent as a row of structs, and the records by value between reading and writing them.
+-- The records of a row by value, between reading them and writing them back.
 use mathlib.Core.Path.{_≡_}
 use mathlib.Core.Bool.{cond}
 use mathlib.Core.List.{List}
@@ -7,13 +7,11 @@ use lib.Dec.{eqb, ltb}
 use lib.ListN.{getD, set, take, replicate}
 use lib.Ieee.{Float, nan}
 use Rattle.converge.specs.Doubles.{zero64}
-use Rattle.converge.specs.Answer.{Answer, answerOf}
-use Rattle.converge.specs.Row.{Stepped}
+use Rattle.converge.specs.Answer.{Answer}
 use Rattle.converge.specs.Promise.{Rows, RowStep}
 use Rattle.converge.specs.declared.History.{History}
 use Rattle.converge.specs.declared.Pasts.{Pasts}
 use Rattle.converge.specs.declared.Rewrite.{Rewrite}
-use Rattle.converge.specs.declared.Verdict.{Verdict}
 
 -- What stands at a place beyond a row.
 abbrev pub blank : History
@@ -56,10 +54,3 @@ writtenOf history pasts (suc k) = set (writtenOf history pasts k) k (pastAt past
 pub record PastsStep (s : Rows) (n : ℕ) (r : Rewrite) (x′ : List Float) (count′ : ℕ) : Type 0 where
   pub row : RowStep s (r .verdict) x′ (take n (r .pasts .x)) (take n (r .pasts .y)) count′
   pub moved : r .moved ≡ rewrittenOf (s .answer) n
-
--- What the step of a row returns, and what stands in each lent row and in the count at exit.
-pub record HistoryStep (s : Stepped) (r : Verdict) (x′ : List Float) (past′ : List History) (count′ : ℕ) : Type 0 where
-  pub verdict : answerOf r ≡ s .answer
-  pub x : x′ ≡ s .x
-  pub past : past′ ≡ s .past
-  pub count : count′ ≡ s .count

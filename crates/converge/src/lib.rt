@@ -1,5 +1,6 @@
 // Convergence steps for one torn stream of 1 to 16 values: successive substitution and bounded Wegstein, in doubles,
-// with one rounding for each operation in the order written. First one value, then a row of them.
+// with one rounding for each operation in the order written. First one value, then a row with its records in two rows, last a
+// row with its records lent as a row of structs.
 ghost use mathlib.Core.Path.{_≡_};
 ghost use mathlib.Core.Bool.{true};
 ghost use mathlib.Core.List.{[], _∷_};
@@ -8,8 +9,8 @@ ghost use lib.ListN.{length, take};
 ghost use lib.Ieee.{le};
 ghost use Rattle.converge.specs.Doubles.{zero64, lowest, larger, mag, usable, beyond};
 ghost use Rattle.converge.specs.Answer.{answerOf, moved};
-ghost use Rattle.converge.specs.Promise.{ValueStep, RowStep, stayed, valueStepped, rowsStepped};
-ghost use Rattle.converge.specs.Pasts.{noPasts, withPast, pastAt, readableOf, rewrittenOf, pastsOf, writtenOf, PastsStep, HistoryStep};
+ghost use Rattle.converge.specs.Promise.{ValueStep, RowStep, HistoryStep, stayed, valueStepped, rowsStepped};
+ghost use Rattle.converge.specs.Pasts.{noPasts, withPast, pastAt, readableOf, rewrittenOf, pastsOf, writtenOf, PastsStep};
 ghost use Rattle.converge.specs.Row.{recordsOf, largestOf, allClose, nextsOf, strayOr, usableRow, usableRecords, rowsWrong, toleranceWrong, limitWrong, recordsWrong, refusalOf, judged, after, stepped};
 ghost use Rattle.converge.specs.Value.{gapOf, close, factorOf, nextOf, usableRecord};
 
@@ -524,6 +525,9 @@ pub fn step_row(
         Verdict::Refused(k) => Verdict::Refused(k),
     }
 }
+
+// From here on the records are lent as a row of structs. `read_pasts`, `write_pasts` and `step_history`, which have that row
+// in their signatures, are proved by walks of their MIR, by hand; all work on numbers is done between them, by value.
 
 // The records of a row of at most 16 values, by value: the x of each, and the y of each.
 struct Pasts {

@@ -1,6 +1,5 @@
 -- `converge::readable` meets its contract. Assumes nothing.
 use borrow.Author.Tests.{lt-ltb, le-ltb}
-use Rattle.converge.specs.Pasts.{readableOf}
 use Rattle.converge.proofs.readable.Statement.{statement}
 use Rattle.converge.proofs.readable.Tie as tie
 

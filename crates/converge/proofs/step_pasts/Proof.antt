@@ -1,6 +1,5 @@
 -- `converge::step_pasts` meets its contract: `step_row` on the first n values of two arrays. Assumes nothing.
 use mathlib.Core.Path.{_≡_, sym, _∙_, ap}
-use Prim.Native.Nat.{ℕ, _≤_}
 use native.Mathlib.Omega.{arith}
 use lib.ListN.{length}
 use lib.Seq.{length-take-le, take-at}
