@@ -12,7 +12,7 @@ use lib.Ieee.{Float}
 use borrow.Author.Tests.{eqb-true, eqb-false}
 use Rattle.converge.specs.Answer.{Answer, answerOf}
 use Rattle.converge.specs.Row.{Stepped, stepped, recordsOf}
-use Rattle.converge.specs.Promise.{ValueStep, RowStep, Rows, valueStepped, rowsStepped}
+use Rattle.converge.specs.Promise.{ValueStep, RowStep, HistoryStep, Rows, valueStepped, rowsStepped}
 use Rattle.converge.specs.declared.History.{History}
 use Rattle.converge.specs.declared.Step.{Step}
 use Rattle.converge.specs.declared.Verdict.{Verdict}
@@ -102,7 +102,8 @@ module _ (x y px py : List Float) (count method : ℕ) (tolerance : Float) (limi
           subst (λ (s : Rows). Tied limit count (s .answer) (s .count)) (sym (rows-unlevel x y px py count method tolerance limit (eqb-false _ _ e)))
           (record { moves = λ f. absurd (omega (arith, f)); below = λ f. absurd (omega (arith, f)); stays = λ f. refl })
 
--- A call of the step of one value, and of the step of a row, with any values, records, method and tolerance.
+-- A call of the step of one value, of the step of a row with its records in two rows, and of the step of a row with its records in one, with any
+-- values, records, method and tolerance.
 pub record ValueCall (limit n : ℕ) (a : Answer) (m : ℕ) : Type 0 where
   pub x : Float
   pub y : Float
@@ -128,6 +129,18 @@ pub record RowCall (limit n : ℕ) (a : Answer) (m : ℕ) : Type 0 where
   pub promised : RowStep (rowsStepped x y pastX pastY n method tolerance limit) verdict x′ pastX′ pastY′ m
   pub answer : a ≡ answerOf verdict
 
+pub record HistoryCall (limit n : ℕ) (a : Answer) (m : ℕ) : Type 0 where
+  pub x : List Float
+  pub y : List Float
+  pub past : List History
+  pub method : ℕ
+  pub tolerance : Float
+  pub verdict : Verdict
+  pub x′ : List Float
+  pub past′ : List History
+  pub promised : HistoryStep (stepped x y past n method tolerance limit) verdict x′ past′ m
+  pub answer : a ≡ answerOf verdict
+
 pub value-call-tied : (limit n : ℕ) (a : Answer) (m : ℕ) → ValueCall limit n a m → Tied limit n a m
 value-call-tied limit n a m c =
     retied (sym (c .answer ∙ c .promised .verdict)) (sym (c .count ∙ c .promised .count))
@@ -138,6 +151,10 @@ row-call-tied limit n a m c =
     retied (sym (c .answer ∙ c .promised .verdict)) (sym (c .promised .count))
     (rows-tied (c .x) (c .y) (c .pastX) (c .pastY) n (c .method) (c .tolerance) limit)
 
+pub history-call-tied : (limit n : ℕ) (a : Answer) (m : ℕ) → HistoryCall limit n a m → Tied limit n a m
+history-call-tied limit n a m c =
+    retied (sym (c .answer ∙ c .promised .verdict)) (sym (c .promised .count)) (stepped-tied (c .x) (c .y) (c .past) n (c .method) (c .tolerance) limit)
+
 -- A count that isn't tied to the Moved answers is shut out: in each result that a statement allows the count is one more exactly on Moved,
 -- and else as it stood.
 pub value-count : (limit n : ℕ) (a : Answer) (m : ℕ) → ValueCall limit n a m → ((m ≡ n + 1) ↔ (a .number ≡ 4)) × ((m ≡ n) ⊎ (m ≡ n + 1))
@@ -146,9 +163,15 @@ value-count limit n a m c = tied-exactly limit n a m (value-call-tied limit n a 
 pub row-count : (limit n : ℕ) (a : Answer) (m : ℕ) → RowCall limit n a m → ((m ≡ n + 1) ↔ (a .number ≡ 4)) × ((m ≡ n) ⊎ (m ≡ n + 1))
 row-count limit n a m c = tied-exactly limit n a m (row-call-tied limit n a m c)
 
+pub history-count : (limit n : ℕ) (a : Answer) (m : ℕ) → HistoryCall limit n a m → ((m ≡ n + 1) ↔ (a .number ≡ 4)) × ((m ≡ n) ⊎ (m ≡ n + 1))
+history-count limit n a m c = tied-exactly limit n a m (history-call-tied limit n a m c)
+
 -- Moved comes at most `limit` times.
 pub value-moves : (limit k l : ℕ) → Calls (ValueCall limit) 0 k l → k ≤ limit
 value-moves limit k l = at-most-limit limit (ValueCall limit) (value-call-tied limit)
 
 pub row-moves : (limit k l : ℕ) → Calls (RowCall limit) 0 k l → k ≤ limit
 row-moves limit k l = at-most-limit limit (RowCall limit) (row-call-tied limit)
+
+pub history-moves : (limit k l : ℕ) → Calls (HistoryCall limit) 0 k l → k ≤ limit
+history-moves limit k l = at-most-limit limit (HistoryCall limit) (history-call-tied limit)

@@ -13,3 +13,5 @@ pub mod Largest
 pub mod Sound
 pub mod Bound
 pub mod Settled
+pub mod Records
+pub mod Shared

@@ -7,7 +7,7 @@ use lib.Dec.{eqb}
 use lib.Ieee.{Float}
 use Rattle.converge.specs.Answer.{Answer, answerOf}
 use Rattle.converge.specs.Row.{Stepped}
-use Rattle.converge.specs.Promise.{ValueStep, Rows, RowStep}
+use Rattle.converge.specs.Promise.{ValueStep, Rows, RowStep, HistoryStep}
 use Rattle.converge.specs.declared.History.{History}
 use Rattle.converge.specs.declared.Step.{Step}
 use Rattle.converge.specs.declared.Verdict.{Verdict}
@@ -32,7 +32,7 @@ back-is (Refused n) = refl
 pub answer-one : (v w : Verdict) → answerOf v ≡ answerOf w → v ≡ w
 answer-one v w e = sym (back-is v) ∙ ap verdict-back e ∙ back-is w
 
--- ---- the two public functions
+-- ---- the three public functions
 
 made : Verdict → Float → History → ℕ → Step
 made v x p n = record { verdict = v; x = x; past = p; count = n }
@@ -53,3 +53,8 @@ pub rows-settled : (s : Rows) (r r′ : Verdict) (x x′ px px′ py py′ : Lis
     → RowStep s r x px py n → RowStep s r′ x′ px′ py′ n′ → (r ≡ r′) × (x ≡ x′) × (px ≡ px′) × (py ≡ py′) × (n ≡ n′)
 rows-settled s r r′ x x′ px px′ py py′ n n′ k k′ =
     (answer-one r r′ (k .verdict ∙ sym (k′ .verdict)), k .x ∙ sym (k′ .x), k .pastX ∙ sym (k′ .pastX), k .pastY ∙ sym (k′ .pastY), k .count ∙ sym (k′ .count))
+
+pub history-settled : (s : Stepped) (r r′ : Verdict) (x x′ : List Float) (past past′ : List History) (n n′ : ℕ)
+    → HistoryStep s r x past n → HistoryStep s r′ x′ past′ n′ → (r ≡ r′) × (x ≡ x′) × (past ≡ past′) × (n ≡ n′)
+history-settled s r r′ x x′ past past′ n n′ k k′ =
+    (answer-one r r′ (k .verdict ∙ sym (k′ .verdict)), k .x ∙ sym (k′ .x), k .past ∙ sym (k′ .past), k .count ∙ sym (k′ .count))

@@ -3,3 +3,4 @@ pub mod Answer
 pub mod Value
 pub mod Row
 pub mod Promise
+pub mod Pasts

@@ -58,3 +58,10 @@ pub record RowStep (s : Rows) (r : Verdict) (x′ pastX′ pastY′ : List Float
   pub pastX : pastX′ ≡ s .pastX
   pub pastY : pastY′ ≡ s .pastY
   pub count : count′ ≡ s .count
+
+-- There is one history record for each value, lent as a row: the same, with the records as they are.
+pub record HistoryStep (s : Stepped) (r : Verdict) (x′ : List Float) (past′ : List History) (count′ : ℕ) : Type 0 where
+  pub verdict : answerOf r ≡ s .answer
+  pub x : x′ ≡ s .x
+  pub past : past′ ≡ s .past
+  pub count : count′ ≡ s .count

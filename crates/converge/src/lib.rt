@@ -1,15 +1,17 @@
 // Convergence steps for one torn stream of 1 to 16 values: successive substitution and bounded Wegstein, in doubles,
-// with one rounding for each operation in the order written. First one value, then a row of them.
+// with one rounding for each operation in the order written. First one value, then a row with its records in two rows, last a
+// row with its records lent as a row of structs.
 ghost use mathlib.Core.Path.{_≡_};
 ghost use mathlib.Core.Bool.{true};
 ghost use mathlib.Core.List.{[], _∷_};
 ghost use Prim.Native.Nat.{_<_, _≤_, _+_};
-ghost use lib.ListN.{length};
+ghost use lib.ListN.{length, take};
 ghost use lib.Ieee.{le};
 ghost use Rattle.converge.specs.Doubles.{zero64, lowest, larger, mag, usable, beyond};
 ghost use Rattle.converge.specs.Answer.{answerOf, moved};
-ghost use Rattle.converge.specs.Promise.{ValueStep, RowStep, stayed, valueStepped, rowsStepped};
-ghost use Rattle.converge.specs.Row.{recordsOf, largestOf, allClose, nextsOf, strayOr, usableRow, usableRecords, rowsWrong, toleranceWrong, limitWrong, recordsWrong, refusalOf, judged, after};
+ghost use Rattle.converge.specs.Promise.{ValueStep, RowStep, HistoryStep, stayed, valueStepped, rowsStepped};
+ghost use Rattle.converge.specs.Pasts.{noPasts, withPast, pastAt, readableOf, rewrittenOf, pastsOf, writtenOf, PastsStep};
+ghost use Rattle.converge.specs.Row.{recordsOf, largestOf, allClose, nextsOf, strayOr, usableRow, usableRecords, rowsWrong, toleranceWrong, limitWrong, recordsWrong, refusalOf, judged, after, stepped};
 ghost use Rattle.converge.specs.Value.{gapOf, close, factorOf, nextOf, usableRecord};
 
 // The x and y of a value's last accepted move.
@@ -522,4 +524,155 @@ pub fn step_row(
         }
         Verdict::Refused(k) => Verdict::Refused(k),
     }
+}
+
+// From here on the records are lent as a row of structs. `read_pasts`, `write_pasts` and `step_history`, which have that row
+// in their signatures, are proved by walks of their MIR, by hand; all work on numbers is done between them, by value.
+
+// The records of a row of at most 16 values, by value: the x of each, and the y of each.
+struct Pasts {
+    x: [f64; 16],
+    y: [f64; 16],
+}
+
+// No records: zeros.
+fn no_pasts() -> Pasts
+    ensures { λ r. ⌜ r ≡ noPasts ⌝ }
+{
+    Pasts {
+        x: [0.0; 16],
+        y: [0.0; 16],
+    }
+}
+
+// The records with the one at i replaced.
+fn with_past(pasts: Pasts, i: usize, past: History) -> Pasts
+    requires { ⌜ i < 16 ⌝ }
+    ensures { λ r. ⌜ r ≡ withPast pasts i past ⌝ }
+{
+    let mut x = pasts.x;
+    let mut y = pasts.y;
+    x[i] = past.x;
+    y[i] = past.y;
+    Pasts { x, y }
+}
+
+// The record at i.
+fn past_at(pasts: Pasts, i: usize) -> History
+    requires { ⌜ i < 16 ⌝ }
+    ensures { λ r. ⌜ r ≡ pastAt pasts i ⌝ }
+{
+    let x = pasts.x;
+    let y = pasts.y;
+    History { x: x[i], y: y[i] }
+}
+
+// How many records of a row are read: all, or none where there are over 16.
+fn readable(length: usize) -> usize
+    ensures { λ r. ⌜ r ≡ readableOf length ⌝ }
+{
+    if 16 < length {
+        return 0;
+    }
+    length
+}
+
+// A row's verdict, and the records to write: the first `moved` of `pasts`.
+struct Rewrite {
+    verdict: Verdict,
+    pasts: Pasts,
+    moved: usize,
+}
+
+// How many of n records a verdict rewrites: all on Moved, else none.
+fn rewritten(verdict: Verdict, n: usize) -> usize
+    ensures { λ r. ⌜ r ≡ rewrittenOf (answerOf verdict) n ⌝ }
+{
+    match verdict {
+        Verdict::Settled(_) => 0,
+        Verdict::Spent(_) => 0,
+        Verdict::Strayed(_) => 0,
+        Verdict::Moved(_) => n,
+        Verdict::Refused(_) => 0,
+    }
+}
+
+// The step of a row whose records are the first n of `pasts`.
+fn step_pasts(
+    x: &mut [f64],
+    y: &[f64],
+    pasts: Pasts,
+    n: usize,
+    count: &mut u16,
+    method: u32,
+    tolerance: f64,
+    limit: u32,
+) -> Rewrite
+    requires { ⌜ n ≤ 16 ⌝ }
+    ensures { λ r. ⌜ PastsStep (rowsStepped (now (x .entry)) (now (y .entry)) (take n (pasts .x)) (take n (pasts .y)) (now (count .entry)) method tolerance limit) n r (now (x .exit)) (now (count .exit)) ⌝ }
+{
+    let mut a = pasts.x;
+    let mut b = pasts.y;
+    let verdict = step_row(
+        x,
+        y,
+        &mut a[..n],
+        &mut b[..n],
+        count,
+        method,
+        tolerance,
+        limit,
+    );
+    let moved = rewritten(verdict, n);
+    Rewrite {
+        verdict,
+        pasts: Pasts { x: a, y: b },
+        moved,
+    }
+}
+
+// The first n records of a row, by value.
+fn read_pasts(history: &[History], n: usize) -> Pasts
+    requires { ⌜ (n ≤ 16) × (n ≤ length (now history)) ⌝ }
+    ensures { λ r. ⌜ r ≡ pastsOf (now (history .entry)) n ⌝ }
+{
+    let mut pasts = no_pasts();
+    let mut i = 0usize;
+    while i < n {
+        pasts = with_past(pasts, i, history[i]);
+        i += 1;
+    }
+    pasts
+}
+
+// Writes the first n records.
+fn write_pasts(history: &mut [History], pasts: Pasts, n: usize)
+    requires { ⌜ (n ≤ 16) × (n ≤ length (now history)) ⌝ }
+    ensures { λ _. ⌜ now (history .exit) ≡ writtenOf (now (history .entry)) pasts n ⌝ }
+{
+    let mut i = 0usize;
+    while i < n {
+        history[i] = past_at(pasts, i);
+        i += 1;
+    }
+}
+
+// The step of a row of 1 to 16 values, with one record for each value: on Moved the next values stand in x, the records
+// hold this x and y and the count is one more; at every other verdict all stays. Refuses by 30 to 34.
+pub fn step_history(
+    x: &mut [f64],
+    y: &[f64],
+    history: &mut [History],
+    count: &mut u16,
+    method: u32,
+    tolerance: f64,
+    limit: u32,
+) -> Verdict
+    ensures { λ r. ⌜ HistoryStep (stepped (now (x .entry)) (now (y .entry)) (now (history .entry)) (now (count .entry)) method tolerance limit) r (now (x .exit)) (now (history .exit)) (now (count .exit)) ⌝ }
+{
+    let n = readable(history.len());
+    let pasts = read_pasts(history, n);
+    let s = step_pasts(x, y, pasts, n, count, method, tolerance, limit);
+    write_pasts(history, s.pasts, s.moved);
+    s.verdict
 }
