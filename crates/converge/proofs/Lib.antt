@@ -14,4 +14,3 @@ pub mod Sound
 pub mod Bound
 pub mod Settled
 pub mod Records
-pub mod Shared

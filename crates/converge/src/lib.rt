@@ -1,6 +1,8 @@
 // Convergence steps for one torn stream of 1 to 16 values: successive substitution and bounded Wegstein, in doubles,
 // with one rounding for each operation in the order written. First one value, then a row with its records in two rows, last a
 // row with its records lent as a row of structs.
+#![tactic(auto)]
+
 ghost use Rattle.std.specs.Prelude.{◌≡◌, true, [], ◌∷◌, ◌<◌, ◌≤◌, ◌+◌, length, take};
 ghost use Rattle.std.specs.Float.Ieee.{le};
 ghost use Rattle.converge.specs.Doubles.{zero64, lowest, larger, mag, usable, beyond};
@@ -12,14 +14,14 @@ ghost use Rattle.converge.specs.Value.{gap_of, close, factor_of, next_of, usable
 
 // The x and y of a value's last accepted move.
 #[repr(C)]
-#[derive(Drop)]
+#[derive(Clone, Copy)]
 pub struct History {
     pub x: f64,
     pub y: f64,
 }
 
 // What a step answers. Settled, Spent and Moved carry the largest |y - x|, Strayed the first next value beyond 1e12.
-#[derive(Drop)]
+#[derive(Clone, Copy)]
 pub enum Verdict {
     Settled(f64),
     Spent(f64),
@@ -38,6 +40,7 @@ pub struct Step {
 }
 
 // |v|: v with its sign bit cleared, of -0.0 too.
+#[tactic(auto, using(crate::proofs::Sizes::mag_below, crate::proofs::Sizes::mag_zero, crate::proofs::Sizes::mag_above))]
 fn size(v: f64) -> f64
     ensures { result ≡ mag v }
 {
@@ -51,6 +54,7 @@ fn size(v: f64) -> f64
 }
 
 // Whether v is finite and not beyond 1e12 in size.
+#[tactic(auto, unfolding(crate::specs::Doubles::usable))]
 fn fit(v: f64) -> bool
     ensures { result ≡ usable v }
 {
@@ -58,6 +62,7 @@ fn fit(v: f64) -> bool
 }
 
 // |y - x|
+#[tactic(auto, unfolding(crate::specs::Value::gap_of))]
 fn gap(x: f64, y: f64) -> f64
     ensures { result ≡ gap_of x y }
 {
@@ -65,6 +70,7 @@ fn gap(x: f64, y: f64) -> f64
 }
 
 // The Wegstein factor, from -5 to 0: 0 where d is zero, and nothing is divided there.
+#[tactic(auto, using(crate::proofs::Sizes::lowest_le, crate::proofs::Sizes::ends), unfolding(crate::specs::Value::factor_of))]
 fn factor(x: f64, y: f64, past: History) -> f64
     ensures exact { result ≡ factor_of x y past }
     ensures within { (le lowest result ≡ true) × (le result zero64 ≡ true) }
@@ -83,6 +89,7 @@ fn factor(x: f64, y: f64, past: History) -> f64
 }
 
 // The next value: y by substitution and at count 0; by Wegstein (q * x) + ((1 - q) * y), or y where q is zero.
+#[tactic(auto, unfolding(crate::specs::Value::next_of))]
 fn next_value(x: f64, y: f64, past: History, count: u16, method: u32) -> f64
     ensures { result ≡ next_of x y past count method }
 {
@@ -100,6 +107,7 @@ fn next_value(x: f64, y: f64, past: History, count: u16, method: u32) -> f64
 }
 
 // Whether |y - x| is at most the tolerance times the larger of |x| and 1.
+#[tactic(auto, unfolding(crate::specs::Value::close))]
 fn is_close(x: f64, y: f64, tolerance: f64) -> bool
     ensures { result ≡ close x y tolerance }
 {
@@ -112,6 +120,7 @@ fn is_close(x: f64, y: f64, tolerance: f64) -> bool
 }
 
 // Whether both values of a record are finite and not beyond 1e12 in size.
+#[tactic(auto, unfolding(crate::specs::Value::usable_record))]
 fn fit_record(past: History) -> bool
     ensures { result ≡ usable_record past }
 {
@@ -122,6 +131,7 @@ fn fit_record(past: History) -> bool
 }
 
 // Whether the size of v is beyond 1e12.
+#[tactic(auto, unfolding(crate::specs::Doubles::beyond))]
 fn is_beyond(v: f64) -> bool
     ensures { result ≡ beyond v }
 {
@@ -129,6 +139,7 @@ fn is_beyond(v: f64) -> bool
 }
 
 // 30: whether the lengths of the rows differ, or are 0 or over 16.
+#[tactic(auto, unfolding(crate::specs::Row::rows_wrong))]
 fn rows_wrong(x: usize, y: usize, past: usize) -> bool
     ensures { result ≡ rows_wrong x y past }
 {
@@ -145,6 +156,7 @@ fn rows_wrong(x: usize, y: usize, past: usize) -> bool
 }
 
 // 31: whether the tolerance is not from 1e-12 to 0.1.
+#[tactic(auto, unfolding(crate::specs::Row::tolerance_wrong))]
 fn tolerance_wrong(tolerance: f64) -> bool
     ensures { result ≡ tolerance_wrong tolerance }
 {
@@ -157,6 +169,7 @@ fn tolerance_wrong(tolerance: f64) -> bool
 }
 
 // 32: whether the limit is not 1 to 500, or the method unknown.
+#[tactic(auto, unfolding(crate::specs::Row::limit_wrong))]
 fn limit_wrong(limit: u32, method: u32) -> bool
     ensures { result ≡ limit_wrong limit method }
 {
@@ -173,6 +186,7 @@ fn limit_wrong(limit: u32, method: u32) -> bool
 }
 
 // 34, of one value: whether the count is over the limit, or is over 0 and the record has a value that isn't fit.
+#[tactic(auto, using(crate::proofs::Flags::and_true), unfolding(crate::specs::Row::records_wrong, crate::specs::Row::usable_records))]
 fn record_wrong(past: History, count: u16, limit: u32) -> bool
     ensures { result ≡ records_wrong (past ∷ []) count limit }
 {
@@ -348,6 +362,7 @@ fn largest_gap(x: &[f64], y: &[f64]) -> f64
 }
 
 // 34, of a row: whether the count is over the limit, or is over 0 and some record has a value that isn't fit.
+#[tactic(auto, unfolding(crate::specs::Row::records_wrong))]
 fn records_wrong(past_x: &[f64], past_y: &[f64], count: u16, limit: u32) -> bool
     requires { length past_x.now ≡ length past_y.now }
     ensures { result ≡ records_wrong (records_of past_x.now past_y.now) count limit }
@@ -529,7 +544,7 @@ pub fn step_row(
 // in their signatures, are proved by walks of their MIR, by hand; all work on numbers is done between them, by value.
 
 // The records of a row of at most 16 values, by value: the x of each, and the y of each.
-#[derive(Drop)]
+#[derive(Clone, Copy)]
 struct Pasts {
     x: [f64; 16],
     y: [f64; 16],
