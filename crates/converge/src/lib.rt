@@ -31,7 +31,7 @@ pub enum Verdict {
 }
 
 // The verdict for one value, with its x, record and count as they stand after it.
-#[derive(Drop)]
+#[derive(Clone, Copy)]
 pub struct Step {
     pub verdict: Verdict,
     pub x: f64,
@@ -200,6 +200,7 @@ fn record_wrong(past: History, count: u16, limit: u32) -> bool
 }
 
 // The refusal of a step of one value, or 0.
+#[tactic(auto, using(crate::proofs::Flags::and_true), unfolding(crate::specs::Row::refusal_of, crate::specs::Row::rows_wrong, crate::specs::Row::values_wrong, crate::specs::Row::usable_row))]
 fn refuse_value(
     x: f64,
     y: f64,
@@ -242,6 +243,7 @@ fn stay(verdict: Verdict, x: f64, past: History, count: u16) -> Step
 }
 
 // The step of one value that isn't refused.
+#[tactic(auto, using(crate::proofs::Flags::and_true), unfolding(crate::specs::Row::after, crate::specs::Row::judged, crate::specs::Row::all_close, crate::specs::Row::largest_of, crate::specs::Row::largest_from, crate::specs::Row::nexts_of, crate::specs::Row::stray_or, crate::specs::Row::records_of))]
 fn judge_value(
     x: f64,
     y: f64,
@@ -276,6 +278,7 @@ fn judge_value(
 }
 
 // The step of one value: its verdict, and x, record and count as they stand after it. Refuses by 31 to 34.
+#[tactic(auto, using(crate::proofs::Accepted::accepted), unfolding(crate::specs::Row::stepped, crate::specs::Row::after, crate::specs::Row::verdict_of))]
 pub fn step_value(
     x: f64,
     y: f64,
@@ -295,6 +298,7 @@ pub fn step_value(
 }
 
 // Whether every value of a row is finite and not beyond 1e12 in size.
+#[tactic(auto, using(crate::proofs::Left::usable_left, crate::proofs::Left::usable_end))]
 fn all_fit(row: &[f64]) -> bool
     ensures { result ≡ usable_row row.now }
 {
@@ -309,6 +313,7 @@ fn all_fit(row: &[f64]) -> bool
 }
 
 // Whether every record has both its values so; the records stand in two rows of one length.
+#[tactic(auto, using(crate::proofs::Left::usable_records_left, crate::proofs::Left::records_end))]
 fn all_fit_records(past_x: &[f64], past_y: &[f64]) -> bool
     requires { length past_x.now ≡ length past_y.now }
     ensures { result ≡ usable_records (records_of past_x.now past_y.now) }
@@ -326,6 +331,7 @@ fn all_fit_records(past_x: &[f64], past_y: &[f64]) -> bool
 }
 
 // Whether every value of two rows of one length is close.
+#[tactic(auto, using(crate::proofs::Left::close_left, crate::proofs::Left::close_end))]
 fn all_close(x: &[f64], y: &[f64], tolerance: f64) -> bool
     requires { length x.now ≡ length y.now }
     ensures { result ≡ all_close x.now y.now tolerance }
@@ -348,6 +354,7 @@ fn larger_of(a: f64, b: f64) -> f64
 }
 
 // The largest |y - x| of two rows of one length that aren't empty.
+#[tactic(auto, using(crate::proofs::Left::largest_first, crate::proofs::Left::largest_left, crate::proofs::Left::largest_end))]
 fn largest_gap(x: &[f64], y: &[f64]) -> f64
     requires { (length x.now ≡ length y.now) × (0 < length x.now) }
     ensures { result ≡ largest_of x.now y.now }
@@ -377,6 +384,7 @@ fn records_wrong(past_x: &[f64], past_y: &[f64], count: u16, limit: u32) -> bool
 }
 
 // The refusal of a step of a row whose records stand in two rows of one length, or 0.
+#[tactic(auto, using(crate::proofs::Rows::records_length), unfolding(crate::specs::Row::refusal_of, crate::specs::Row::values_wrong))]
 fn refuse_row(
     x: &[f64],
     y: &[f64],
@@ -412,6 +420,7 @@ fn refuse_row(
 }
 
 // Strayed with the first next value beyond 1e12 in size, else Moved with `top`.
+#[tactic(auto, using(crate::proofs::Left::stray_left, crate::proofs::Left::stray_end))]
 fn stray_or_move(
     x: &[f64],
     y: &[f64],
@@ -438,6 +447,7 @@ fn stray_or_move(
 }
 
 // The verdict of a row that isn't refused.
+#[tactic(auto, unfolding(crate::specs::Row::judged))]
 fn judge_row(
     x: &[f64],
     y: &[f64],
@@ -593,7 +603,7 @@ fn readable(length: usize) -> usize
 }
 
 // A row's verdict, and the records to write: the first `moved` of `pasts`.
-#[derive(Drop)]
+#[derive(Clone, Copy)]
 struct Rewrite {
     verdict: Verdict,
     pasts: Pasts,
