@@ -472,6 +472,7 @@ fn judge_row(
 }
 
 // The verdict of a row: refused, or judged.
+#[tactic(auto, using(crate::proofs::Lent::rows_unlevel, crate::proofs::Lent::rows_answer, crate::proofs::Rows::records_length, crate::proofs::Accepted::accepted), unfolding(crate::specs::Row::verdict_of))]
 fn answer_row(
     x: &[f64],
     y: &[f64],
@@ -523,6 +524,7 @@ fn move_row(
 
 // The step of a row of 1 to 16 values, with the records as two rows: on Moved the next values stand in x, the records
 // hold this x and y and the count is one more; at every other verdict all stays. Refuses by 30 to 34.
+#[tactic(auto, using(crate::proofs::Lent::rows_kept))]
 pub fn step_row(
     x: &mut [f64],
     y: &[f64],
@@ -550,8 +552,8 @@ pub fn step_row(
     }
 }
 
-// From here on the records are lent as a row of structs. `read_pasts`, `write_pasts` and `step_history`, which have that row
-// in their signatures, are proved by walks of their MIR, by hand; all work on numbers is done between them, by value.
+// From here on the records are lent as a row of structs. `read_pasts`, `write_pasts` and `step_history` have that row in their
+// signatures; all work on numbers is done between them, by value.
 
 // The records of a row of at most 16 values, by value: the x of each, and the y of each.
 #[derive(Clone, Copy)]
@@ -658,6 +660,7 @@ fn step_pasts(
 }
 
 // The first n records of a row, by value.
+#[tactic(auto, unfolding(crate::specs::Pasts::array_of, crate::specs::Pasts::pasts_of))]
 fn read_pasts(history: &[History], n: usize) -> Pasts
     requires { (n ≤ 16) × (n ≤ length history.now) }
     ensures { result ≡ pasts_of history.now n }
@@ -672,6 +675,7 @@ fn read_pasts(history: &[History], n: usize) -> Pasts
 }
 
 // Writes the first n records.
+#[tactic(auto, unfolding(crate::specs::Pasts::written_of))]
 fn write_pasts(history: &mut [History], pasts: Pasts, n: usize)
     requires { (n ≤ 16) × (n ≤ length history.old) }
     ensures { history.new ≡ written_of history.old pasts n }

@@ -1,5 +1,5 @@
 -- The first i records are written.
-use Rattle.std.proofs.Common.{length, ◌-◌, ◌≡◌, ◌≤◌}
+use Rattle.std.proofs.Common.{◌-◌, ◌≡◌, ◌≤◌}
 use Rattle.converge.specs.Pasts.{written_of}
 use Rattle.converge.proofs.write_pasts.Given as goal
 
