@@ -1,5 +1,7 @@
 // Little-endian numbers of 16, 32 and 64 bits at a place of a lent row of bytes, and clearing the front of a row.
 // Nothing here knows of flowsheets. Each function asks for what its callers can show: that the place lies in the row.
+#![tactic(auto)]
+
 ghost use Rattle.std.specs.Prelude.{◌≡◌, ◌+◌, ◌≤◌, ◌<◌, length};
 ghost use Rattle.words.specs.Words.{number_at, with_number, cleared};
 
