@@ -69,10 +69,12 @@ module _ {L : ℕ → ℕ → Type 0} {n : ℕ} where
 
   -- what is placed doesn't come again
   follows_once : {done o : List ℕ} {j : ℕ} → Follows L n done o → Placed L j done → Placed L j o → ⊥
+  follows_once (end _) p q = elim q [ ]
   follows_once (next h r) p (here s) = h.ready.left (placed_same (same_sym s) p)
   follows_once (next {i = i} h r) p (there q) = follows_once r (placed_left (i ∷ []) p) q
 
   stands : {done o : List ℕ} {j : ℕ} → Follows L n done o → Placed L j o → Stands L n done o j
+  stands (end _) p = elim p [ ]
   stands {done} (next {i = i} {rest = o} h r) (here s) =
       record {
         place = i;

@@ -1,6 +1,8 @@
 // Who reaches whom among at most 64 places, which of them share a block, and the order of the blocks. A table has a row of 64 bits
 // for each place: bit j of row i says that a link, or a path, leads from place i to place j. A set of places is such a row too.
 
+#![tactic(auto)]
+
 ghost use Rattle.std.specs.Prelude.{◌≡◌, ℕ, ◌<◌, ◌≤◌, ◌^◌, length, get_or};
 ghost use Rattle.blocks.specs.Links.{bit, linked};
 ghost use Rattle.blocks.specs.Reach.{round_of, reach_of};
@@ -9,14 +11,14 @@ ghost use Rattle.blocks.specs.Order.{free_in, lowest_free, order_of};
 ghost use Rattle.blocks.specs.Answers.{Holds};
 
 // The places of one block, rising: the first `count` of `places`. The rest are zeros.
-#[derive(Drop)]
+#[derive(Clone, Copy)]
 pub struct Block {
     pub count: usize,
     pub places: [u8; 64],
 }
 
 // The blocks in their order, each by its lowest place: the first `count` of `first`. The rest are zeros.
-#[derive(Drop)]
+#[derive(Clone, Copy)]
 pub struct BlockOrder {
     pub count: usize,
     pub first: [u8; 64],
