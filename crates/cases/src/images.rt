@@ -3,6 +3,7 @@
 ghost use Rattle.std.specs.Prelude.{◌≡◌, ◌≤◌, length};
 
 use crate::report;
+use std::io;
 
 // A place that no test changes: a number written here lies beyond the image.
 const NOWHERE: usize = 4000;
@@ -37,7 +38,7 @@ fn image_of(units: usize, streams: usize) -> [u8; 4096]
     requires { (units ≤ 65) × (streams ≤ 257) }
     ensures { length result ≡ 4096 }
 {
-    let mut image = io::buffer();
+    let mut image = [0u8; 4096];
     let start = 16 + 2 * units;
     words::put_u16(&mut image, 0, 1);
     words::put_u16(&mut image, 2, units as u16);
@@ -53,103 +54,104 @@ fn image_of(units: usize, streams: usize) -> [u8; 4096]
 // The number that reading answers for the image of so many units and streams with `value` written at `at`, lent with
 // `length` bytes.
 fn changed(
-    name: &[u8],
+    rt: &impl Print,
+    name: &str,
     units: usize,
     streams: usize,
     at: usize,
     value: u16,
     length: usize,
     wanted: u32,
-) {
+) -> io::Result<()> {
     if 65 < units {
-        return;
+        return Ok(());
     }
     if 257 < streams {
-        return;
+        return Ok(());
     }
     if 4094 < at {
-        return;
+        return Ok(());
     }
     if 4096 < length {
-        return;
+        return Ok(());
     }
     let mut image = image_of(units, streams);
     words::put_u16(&mut image, at, value);
     let answer = flowsheet::read(&image[..length]);
-    report::line(name, answer.number, wanted);
+    report::line(rt, name, answer.number, wanted)
 }
 
-fn headers() {
-    changed(b"no bytes", 0, 0, NOWHERE, 0, 0, 1);
-    changed(b"15 bytes", 0, 0, NOWHERE, 0, 15, 1);
-    changed(b"16 bytes, nothing held", 0, 0, NOWHERE, 0, 16, 0);
-    changed(b"edition 0", 2, 2, 0, 0, 36, 2);
-    changed(b"edition 2", 2, 2, 0, 2, 36, 2);
-    changed(b"edition 1", 2, 2, 0, 1, 36, 0);
-    changed(b"first spare byte 1", 2, 2, 12, 1, 36, 3);
-    changed(b"last spare byte 1", 2, 2, 14, 256, 36, 3);
-    changed(b"spare bytes zero", 2, 2, 14, 0, 36, 0);
+fn headers(rt: &impl Print) -> io::Result<()> {
+    changed(rt, "no bytes", 0, 0, NOWHERE, 0, 0, 1)?;
+    changed(rt, "15 bytes", 0, 0, NOWHERE, 0, 15, 1)?;
+    changed(rt, "16 bytes, nothing held", 0, 0, NOWHERE, 0, 16, 0)?;
+    changed(rt, "edition 0", 2, 2, 0, 0, 36, 2)?;
+    changed(rt, "edition 2", 2, 2, 0, 2, 36, 2)?;
+    changed(rt, "edition 1", 2, 2, 0, 1, 36, 0)?;
+    changed(rt, "first spare byte 1", 2, 2, 12, 1, 36, 3)?;
+    changed(rt, "last spare byte 1", 2, 2, 14, 256, 36, 3)?;
+    changed(rt, "spare bytes zero", 2, 2, 14, 0, 36, 0)
 }
 
-fn counts() {
-    changed(b"65 units", 65, 0, NOWHERE, 0, 146, 4);
-    changed(b"64 units", 64, 0, NOWHERE, 0, 144, 0);
-    changed(b"257 streams", 1, 257, NOWHERE, 0, 2074, 4);
-    changed(b"256 streams", 1, 256, NOWHERE, 0, 2066, 0);
-    changed(b"64 units and 256 streams", 64, 256, NOWHERE, 0, 2192, 0);
+fn counts(rt: &impl Print) -> io::Result<()> {
+    changed(rt, "65 units", 65, 0, NOWHERE, 0, 146, 4)?;
+    changed(rt, "64 units", 64, 0, NOWHERE, 0, 144, 0)?;
+    changed(rt, "257 streams", 1, 257, NOWHERE, 0, 2074, 4)?;
+    changed(rt, "256 streams", 1, 256, NOWHERE, 0, 2066, 0)?;
+    changed(rt, "64 units and 256 streams", 64, 256, NOWHERE, 0, 2192, 0)
 }
 
-fn layouts() {
-    changed(b"units at 15", 2, 2, 6, 15, 36, 5);
-    changed(b"units at 17", 2, 2, 6, 17, 36, 5);
-    changed(b"streams at 19", 2, 2, 8, 19, 36, 5);
-    changed(b"streams at 21", 2, 2, 8, 21, 36, 5);
-    changed(b"total 35", 2, 2, 10, 35, 36, 5);
-    changed(b"total 37", 2, 2, 10, 37, 36, 5);
-    changed(b"lent 35 of 36", 2, 2, NOWHERE, 0, 35, 5);
-    changed(b"lent 37 of 36", 2, 2, NOWHERE, 0, 37, 5);
-    changed(b"lent 36 of 36", 2, 2, NOWHERE, 0, 36, 0);
+fn layouts(rt: &impl Print) -> io::Result<()> {
+    changed(rt, "units at 15", 2, 2, 6, 15, 36, 5)?;
+    changed(rt, "units at 17", 2, 2, 6, 17, 36, 5)?;
+    changed(rt, "streams at 19", 2, 2, 8, 19, 36, 5)?;
+    changed(rt, "streams at 21", 2, 2, 8, 21, 36, 5)?;
+    changed(rt, "total 35", 2, 2, 10, 35, 36, 5)?;
+    changed(rt, "total 37", 2, 2, 10, 37, 36, 5)?;
+    changed(rt, "lent 35 of 36", 2, 2, NOWHERE, 0, 35, 5)?;
+    changed(rt, "lent 37 of 36", 2, 2, NOWHERE, 0, 37, 5)?;
+    changed(rt, "lent 36 of 36", 2, 2, NOWHERE, 0, 36, 0)
 }
 
-fn unit_numbers() {
-    changed(b"unit 0", 2, 2, 16, 0, 36, 6);
-    changed(b"unit 9999", 2, 0, 18, 9999, 20, 0);
-    changed(b"unit 10000", 2, 0, 18, 10000, 20, 6);
-    changed(b"unit 1 after unit 1", 2, 2, 18, 1, 36, 6);
-    changed(b"unit 2 after unit 1", 2, 2, 18, 2, 36, 0);
+fn unit_numbers(rt: &impl Print) -> io::Result<()> {
+    changed(rt, "unit 0", 2, 2, 16, 0, 36, 6)?;
+    changed(rt, "unit 9999", 2, 0, 18, 9999, 20, 0)?;
+    changed(rt, "unit 10000", 2, 0, 18, 10000, 20, 6)?;
+    changed(rt, "unit 1 after unit 1", 2, 2, 18, 1, 36, 6)?;
+    changed(rt, "unit 2 after unit 1", 2, 2, 18, 2, 36, 0)
 }
 
-fn stream_numbers() {
-    changed(b"stream 0", 2, 2, 20, 0, 36, 7);
-    changed(b"stream 9999", 2, 2, 28, 9999, 36, 0);
-    changed(b"stream 10000", 2, 2, 28, 10000, 36, 7);
-    changed(b"stream 1 after stream 1", 2, 2, 28, 1, 36, 7);
-    changed(b"stream 2 after stream 1", 2, 2, 28, 2, 36, 0);
+fn stream_numbers(rt: &impl Print) -> io::Result<()> {
+    changed(rt, "stream 0", 2, 2, 20, 0, 36, 7)?;
+    changed(rt, "stream 9999", 2, 2, 28, 9999, 36, 0)?;
+    changed(rt, "stream 10000", 2, 2, 28, 10000, 36, 7)?;
+    changed(rt, "stream 1 after stream 1", 2, 2, 28, 1, 36, 7)?;
+    changed(rt, "stream 2 after stream 1", 2, 2, 28, 2, 36, 0)
 }
 
-fn ends() {
-    changed(b"source 3 of 2 units", 2, 2, 22, 3, 36, 8);
-    changed(b"source 2 of 2 units", 2, 2, 22, 2, 36, 0);
-    changed(b"receiver 3 of 2 units", 2, 2, 24, 3, 36, 8);
-    changed(b"receiver 2 of 2 units", 2, 2, 24, 2, 36, 0);
-    changed(b"receiver above 9999", 2, 2, 24, 65535, 36, 8);
-    changed(b"unit 1 to itself", 2, 2, 24, 1, 36, 0);
-    changed(b"both ends outside", 2, 2, 22, 0, 36, 9);
+fn ends(rt: &impl Print) -> io::Result<()> {
+    changed(rt, "source 3 of 2 units", 2, 2, 22, 3, 36, 8)?;
+    changed(rt, "source 2 of 2 units", 2, 2, 22, 2, 36, 0)?;
+    changed(rt, "receiver 3 of 2 units", 2, 2, 24, 3, 36, 8)?;
+    changed(rt, "receiver 2 of 2 units", 2, 2, 24, 2, 36, 0)?;
+    changed(rt, "receiver above 9999", 2, 2, 24, 65535, 36, 8)?;
+    changed(rt, "unit 1 to itself", 2, 2, 24, 1, 36, 0)?;
+    changed(rt, "both ends outside", 2, 2, 22, 0, 36, 9)
 }
 
-fn weights() {
-    changed(b"weight 0", 2, 2, 26, 0, 36, 10);
-    changed(b"weight 1", 2, 2, 26, 1, 36, 0);
-    changed(b"weight 1000", 2, 2, 26, 1000, 36, 0);
-    changed(b"weight 1001", 2, 2, 26, 1001, 36, 10);
+fn weights(rt: &impl Print) -> io::Result<()> {
+    changed(rt, "weight 0", 2, 2, 26, 0, 36, 10)?;
+    changed(rt, "weight 1", 2, 2, 26, 1, 36, 0)?;
+    changed(rt, "weight 1000", 2, 2, 26, 1000, 36, 0)?;
+    changed(rt, "weight 1001", 2, 2, 26, 1001, 36, 10)
 }
 
-pub fn run() {
-    headers();
-    counts();
-    layouts();
-    unit_numbers();
-    stream_numbers();
-    ends();
-    weights();
+pub fn run(rt: &impl Print) -> io::Result<()> {
+    headers(rt)?;
+    counts(rt)?;
+    layouts(rt)?;
+    unit_numbers(rt)?;
+    stream_numbers(rt)?;
+    ends(rt)?;
+    weights(rt)
 }

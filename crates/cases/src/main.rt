@@ -1,7 +1,11 @@
 // Runs the cases that are not proved, and compares: a line for each, with what came out and what should have.
+#![tactic(auto)]
+
 mod images;
 mod report;
 
-fn main() {
-    images::run();
+use std::io;
+
+fn main(rt: HostRuntime) -> io::Result<()> {
+    images::run(&rt)
 }

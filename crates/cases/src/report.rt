@@ -1,15 +1,10 @@
 // One line for a case: its name, what came out, and whether that is what should have come out.
-use libc::STDOUT_FILENO;
+use std::io;
 
-pub fn line(name: &[u8], came: u32, wanted: u32) {
-    io::write_all(STDOUT_FILENO, name);
-    io::write_all(STDOUT_FILENO, b": ");
-    io::print_decimal(STDOUT_FILENO, came as u64);
+pub fn line(rt: &impl Print, name: &str, came: u32, wanted: u32) -> io::Result<()> {
     if came == wanted {
-        io::write_all(STDOUT_FILENO, b"\n");
+        println!(rt; "{name}: {came}")
     } else {
-        io::write_all(STDOUT_FILENO, b" WRONG, should be ");
-        io::print_decimal(STDOUT_FILENO, wanted as u64);
-        io::write_all(STDOUT_FILENO, b"\n");
+        println!(rt; "{name}: {came} WRONG, should be {wanted}")
     }
 }

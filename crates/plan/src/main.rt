@@ -1,65 +1,77 @@
 // Reads a flowsheet image on standard input and lists its plan: the counts, then a line for each block with its place, its
 // units in order, a bar, and its torn streams or a hyphen for none. A refused image prints `refused` and the number.
-use libc::{STDIN_FILENO, STDOUT_FILENO};
+#![tactic(auto)]
+
+ghost use Rattle.std.specs.Prelude.{◌≤◌, IfOk, length};
+
 use planner::{Asked, Plan};
+use std::io;
+use std::io::Read;
 
-fn write(text: &[u8]) {
-    io::write_all(STDOUT_FILENO, text);
-}
-
-fn write_number(number: usize) {
-    io::print_decimal(STDOUT_FILENO, number as u64);
+// Reads until the row is full or the input ends: how many bytes at its front were read.
+fn read_full(input: &mut impl Read, row: &mut [u8]) -> io::Result<usize>
+    ensures { IfOk result (λ n. n ≤ length row.new) }
+{
+    let mut done: usize = 0;
+    while done < row.len() {
+        let count = input.read(&mut row[done..])?;
+        if count == 0 {
+            break;
+        }
+        done += count;
+    }
+    Ok(done)
 }
 
 // The numbers of a row with a space before each.
-fn write_row(row: &[u16]) {
-    let mut i: usize = 0;
-    while i < row.len() {
-        write(b" ");
-        write_number(row[i] as usize);
-        i += 1;
+fn write_row(rt: &impl Print, row: &[u16]) -> io::Result<()> {
+    for number in row {
+        print!(rt; " {number}")?;
     }
+    Ok(())
 }
 
 // The line of the block in that place.
-fn write_block<'a>(blocks: &[u16], order: &'a [u16], torn: &'a [u16], place: usize) {
+fn write_block<'a>(
+    rt: &impl Print,
+    blocks: &[u16],
+    order: &'a [u16],
+    torn: &'a [u16],
+    place: usize,
+) -> io::Result<()> {
     if 65534 < place {
-        return;
+        return Ok(());
     }
-    write_number(place + 1);
-    write(b":");
-    write_row(planner::part(blocks, order, torn, place as u16, Asked::Units));
-    write(b" |");
+    print!(rt; "{}:", place + 1)?;
+    write_row(rt, planner::part(blocks, order, torn, place as u16, Asked::Units))?;
+    print!(rt; " |")?;
     let tears = planner::part(blocks, order, torn, place as u16, Asked::Tears);
     if tears.len() == 0 {
-        write(b" -");
+        print!(rt; " -")?;
     }
-    write_row(tears);
-    write(b"\n");
+    write_row(rt, tears)?;
+    println!(rt;)
 }
 
 // The lines of all the blocks. Four numbers of the block table are one block.
-fn write_blocks<'a>(blocks: &[u16], order: &'a [u16], torn: &'a [u16]) {
-    let count = blocks.len() / 4;
-    let mut place: usize = 0;
-    while place < count {
-        write_block(blocks, order, torn, place);
-        place += 1;
+fn write_blocks<'a>(
+    rt: &impl Print,
+    blocks: &[u16],
+    order: &'a [u16],
+    torn: &'a [u16],
+) -> io::Result<()> {
+    for place in 0..blocks.len() / 4 {
+        write_block(rt, blocks, order, torn, place)?;
     }
+    Ok(())
 }
 
 // The first line: how many units, blocks and torn streams there are.
-fn write_counts(units: usize, blocks: usize, torn: usize) {
-    write(b"units ");
-    write_number(units);
-    write(b" blocks ");
-    write_number(blocks);
-    write(b" torn ");
-    write_number(torn);
-    write(b"\n");
+fn write_counts(rt: &impl Print, units: usize, blocks: usize, torn: usize) -> io::Result<()> {
+    println!(rt; "units {units} blocks {blocks} torn {torn}")
 }
 
-fn write_plan(plan: Plan) {
+fn write_plan(rt: &impl Print, plan: Plan) -> io::Result<()> {
     let blocks = plan.blocks;
     let order = plan.order;
     let torn = plan.torn;
@@ -70,34 +82,32 @@ fn write_plan(plan: Plan) {
     let order_count = order.count;
     let torn_count = torn.count;
     if 256 < block_count {
-        return;
+        return Ok(());
     }
     if 256 < order_count {
-        return;
+        return Ok(());
     }
     if 256 < torn_count {
-        return;
+        return Ok(());
     }
-    write_counts(order_count, block_count / 4, torn_count);
+    write_counts(rt, order_count, block_count / 4, torn_count)?;
     write_blocks(
+        rt,
         &block_numbers[..block_count],
         &order_numbers[..order_count],
         &torn_numbers[..torn_count],
-    );
+    )
 }
 
 // An image has at most 2,192 bytes, and whatever is longer is refused by its first 16 bytes or under 5: so one byte more is
 // read, and no more.
-fn main() {
+fn main(rt: HostRuntime) -> io::Result<()> {
     let mut image = [0u8; 2193];
-    let count = io::read_full(STDIN_FILENO, &mut image);
-    let mut work = io::large_buffer();
+    let count = read_full(&mut rt.reader(), &mut image)?;
+    let mut work = [0u8; 65536];
     let planned = planner::plan_read(&image[..count], &mut work);
     if planned.number != 0 {
-        write(b"refused ");
-        write_number(planned.number as usize);
-        write(b"\n");
-        return;
+        return println!(rt; "refused {}", planned.number);
     }
-    write_plan(planned.plan);
+    write_plan(&rt, planned.plan)
 }
