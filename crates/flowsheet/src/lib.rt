@@ -1,11 +1,13 @@
 // A flowsheet as a value, and reading its image: the flowsheet, or exactly one of the refusals 1 to 10.
+#![tactic(auto)]
+
 ghost use Rattle.std.specs.Prelude.{◌≡◌, ℕ, ◌+◌, ◌*◌, ◌≤◌, ◌<◌, length, []};
 ghost use Rattle.flowsheet.specs.Sheet.{units_of, streams_of, sheet_of, held_units, place_of, known_end, number_fault, weight_fault, stream_fault};
 ghost use Rattle.flowsheet.specs.Image.{header_of, laid_out, unit_record_of, unit_table_of, stream_held, stream_record_of, stream_table_of, refused_with, reading_of};
 ghost use Rattle.flowsheet.specs.Answers.{header_number_of, unit_number_of, stream_number_of};
 
 // A stream: its number, the unit that it leaves and the unit that it enters (0 for outside), and its weight.
-#[derive(Drop)]
+#[derive(Clone, Copy)]
 pub struct Stream {
     pub number: u16,
     pub source: u16,
@@ -14,55 +16,55 @@ pub struct Stream {
 }
 
 // At most 64 units by number, rising; the places beyond the count are zero.
-#[derive(Drop)]
+#[derive(Clone, Copy)]
 pub struct Units {
     pub count: usize,
     pub numbers: [u16; 64],
 }
 
 // At most 256 streams, rising by number; the places beyond the count are zero.
-#[derive(Drop)]
+#[derive(Clone, Copy)]
 pub struct Streams {
     pub count: usize,
     pub records: [Stream; 256],
 }
 
-#[derive(Drop)]
+#[derive(Clone, Copy)]
 pub struct Flowsheet {
     pub units: Units,
     pub streams: Streams,
 }
 
 // What reading an image answers: 0 and the flowsheet, or the refusal's number and an empty flowsheet.
-#[derive(Drop)]
+#[derive(Clone, Copy)]
 pub struct Reading {
     pub number: u32,
     pub sheet: Flowsheet,
 }
 
 // Where a unit stands in the unit table.
-#[derive(Drop)]
+#[derive(Clone, Copy)]
 pub enum Place {
     At(usize),
     Nowhere,
 }
 
 // A unit record: its number, or the refusal's.
-#[derive(Drop)]
+#[derive(Clone, Copy)]
 pub enum UnitRecord {
     Unit(u16),
     Refused(u32),
 }
 
 // A stream record: the stream, or the refusal's number.
-#[derive(Drop)]
+#[derive(Clone, Copy)]
 pub enum StreamRecord {
     Held(Stream),
     Refused(u32),
 }
 
 // An image's header: the counts of units and of streams, or the refusal's number.
-#[derive(Drop)]
+#[derive(Clone, Copy)]
 pub enum Header {
     Counts(usize, usize),
     Refused(u32),
@@ -232,7 +234,7 @@ fn no_units() -> Units
 }
 
 // What reading the unit table answers: 0 and the units, or the refusal's number and none.
-#[derive(Drop)]
+#[derive(Clone, Copy)]
 struct UnitTable {
     number: u32,
     units: Units,
@@ -327,7 +329,7 @@ fn no_streams() -> Streams
 }
 
 // What reading the stream table answers: 0 and the streams, or the refusal's number and none.
-#[derive(Drop)]
+#[derive(Clone, Copy)]
 struct StreamTable {
     number: u32,
     streams: Streams,
