@@ -1,5 +1,5 @@
 -- A flowsheet as a value: the units and the streams that it holds, and what a stream may be.
-use Rattle.std.specs.Prelude.{Bool, true, false, cond, ◌&&◌, not, List, [], ◌∷◌, ℕ, suc, eqb, ltb, leb, length, take}
+use Rattle.std.specs.Prelude.{Bool, true, false, cond, ◌&&◌, List, [], ◌∷◌, ℕ, suc, eqb, ltb, leb, length, take}
 use Rattle.words.specs.Rows.{padded}
 use Rattle.flowsheet.specs.declared.Flowsheet.{Flowsheet}
 use Rattle.flowsheet.specs.declared.Place.{Place}
