@@ -1,5 +1,7 @@
 // What the plant's C program calls, and nothing else: each function takes numbers and rows of bytes, reads them, asks the
 // crate that knows, and writes what it answers. include/najmudhil.h declares them for C.
+#![tactic(auto)]
+
 ghost use Rattle.std.specs.Prelude.{◌≡◌, [], ◌∷◌, ◌+◌, ◌≤◌, length, set};
 ghost use Rattle.std.specs.Float.{binary64};
 ghost use Rattle.std.specs.Float.Ieee.{of_bits, to_bits};
@@ -12,7 +14,7 @@ ghost use Rattle.najmudhil.specs.Step.{double_at, values_of, with_doubles, numbe
 use converge::{History, Step, Verdict};
 
 // An answer in numbers: the refusal's, or 0; the verdict's, or 0 where the step is refused; and what the verdict carries.
-#[derive(Drop)]
+#[derive(Clone, Copy)]
 struct Numbered {
     refusal: u32,
     number: u8,
@@ -40,6 +42,7 @@ fn pattern(v: f64) -> u64
 }
 
 // The double in the 8 bytes at `at`.
+#[tactic(auto, unfolding(crate::specs::Step::double_at))]
 fn double_at(row: &[u8], at: usize) -> f64
     requires { at + 8 ≤ length row.now }
     ensures { result ≡ double_at row.now at }
@@ -56,6 +59,7 @@ fn put_double(row: &mut [u8], at: usize, v: f64)
 }
 
 // Whether one of the lengths isn't the one agreed on.
+#[tactic(auto, unfolding(crate::specs::Step::lengths_wrong))]
 fn lengths_wrong(x: usize, past: usize, count: usize, answer: usize) -> bool
     ensures { result ≡ lengths_wrong x past count answer }
 {
