@@ -90,6 +90,7 @@ pub fn place_of(units: Units, number: u16) -> Place
 }
 
 // Whether an end is outside, or a unit of the table.
+#[tactic(auto, unfolding(crate::specs::Sheet::known_end))]
 fn known_end(units: Units, end: u16) -> bool
     ensures { result ≡ known_end (held_units units) end }
 {
@@ -104,6 +105,7 @@ fn known_end(units: Units, end: u16) -> bool
 }
 
 // What is wrong with the number of a unit or a stream, after the number `last`: 0, or `fault` where it is out of range or not rising.
+#[tactic(auto, unfolding(crate::specs::Sheet::number_fault))]
 fn number_fault(number: u16, last: u16, fault: u32) -> u32
     ensures { result ≡ number_fault number last fault }
 {
@@ -120,6 +122,7 @@ fn number_fault(number: u16, last: u16, fault: u32) -> u32
 }
 
 // What is wrong with a weight: 10, or 0 for nothing.
+#[tactic(auto, unfolding(crate::specs::Sheet::weight_fault))]
 pub fn weight_fault(weight: u16) -> u32
     ensures { result ≡ weight_fault weight }
 {
@@ -133,6 +136,7 @@ pub fn weight_fault(weight: u16) -> u32
 }
 
 // What is wrong with a stream's ends and weight: 8, 9 or 10, or 0 for nothing.
+#[tactic(auto, unfolding(crate::specs::Sheet::stream_fault))]
 pub fn stream_fault(units: Units, stream: Stream) -> u32
     ensures { result ≡ stream_fault (held_units units) stream }
 {
@@ -155,6 +159,7 @@ pub fn stream_fault(units: Units, stream: Stream) -> u32
 }
 
 // Whether the offsets, the total and the lent length are those of the counts.
+#[tactic(auto, unfolding(crate::specs::Image::laid_out))]
 fn laid_out(image: &[u8], units: usize, streams: usize) -> bool
     requires { (16 ≤ length image.now) × (units ≤ 64) × (streams ≤ 256) }
     ensures { result ≡ laid_out image.now units streams }
@@ -174,6 +179,7 @@ fn laid_out(image: &[u8], units: usize, streams: usize) -> bool
 }
 
 // The header of an image: its counts, or the first of 1 to 5.
+#[tactic(auto, unfolding(crate::specs::Image::header_of, crate::specs::Image::header_number))]
 fn read_header(image: &[u8]) -> Header
     ensures { result ≡ header_of image.now }
 {
@@ -270,6 +276,7 @@ fn read_units(image: &[u8], units: usize) -> UnitTable
 }
 
 // The stream whose record begins at `at`.
+#[tactic(auto, unfolding(crate::specs::Image::stream_held))]
 fn stream_at(image: &[u8], at: usize) -> Stream
     requires { at + 8 ≤ length image.now }
     ensures { result ≡ stream_held image.now at }
@@ -373,6 +380,7 @@ fn header_refusal(answer: Header) -> u32
 }
 
 // A flowsheet of no units and no streams.
+#[tactic(auto, unfolding(crate::specs::Sheet::sheet_of))]
 pub fn empty() -> Flowsheet
     ensures { result ≡ sheet_of [] [] }
 {
@@ -383,6 +391,7 @@ pub fn empty() -> Flowsheet
 }
 
 // A refusal under that number.
+#[tactic(auto, unfolding(crate::specs::Image::refused_with))]
 fn refused(number: u32) -> Reading
     ensures { result ≡ refused_with number }
 {
