@@ -1,6 +1,6 @@
 -- One step of the table and one of reading it off. An order of a set begins with a member and goes on with an order of the rest; what it tears
 -- is what the streams into that member weigh and what the rest tears. Assumes nothing.
-use mathlib.Core.Path.{◌≡◌, refl, ap, subst}
+use mathlib.Core.Path.{◌≡◌, refl, sym, ap, ◌∙◌, subst}
 use mathlib.Core.Logic.{◌⊎◌, inl, inr, ⊎_elim}
 use mathlib.Core.List.{List, ◌∷◌}
 use Prim.Native.Nat.{ℕ, ◌+◌, ◌-◌, ◌^◌, ◌<◌, ◌≤◌}
@@ -78,12 +78,14 @@ module _ (W : ℕ → ℕ → ℕ) (k m : ℕ) where
 
         -- against an order that begins with the same member, by the rest
         against_same : {p : List ℕ} (b : Begins p) → u ≡ b.0 → Before W (u ∷ o) p
-        against_same b e =
+        against_same {p} b e =
             let r : Perm (members k (m - 2 ^ u)) b.1 = rw e b.5 in
             let w = weight_next W taken best.perm in
             let x = weight_next W taken r in
-            rw (b.2, ← e)
-            (⊎_elim (λ l. inl (omega arith)) (λ f. inr (omega (arith, f.0), same f.1)) (best.first b.1 r))
+            let y : p ≡ u ∷ b.1 = b.2 ∙ ap (λ (v : ℕ). v ∷ b.1) (sym e) in
+            let h : Before W (u ∷ o) (u ∷ b.1) =
+            ⊎_elim (λ l. inl (omega (arith, l, w, x))) (λ f. inr (omega (arith, f.0, w, x), same f.1)) (best.first b.1 r) in
+            subst (λ (l : List ℕ). Before W (u ∷ o) l) (sym y) h
 
         against : {p : List ℕ} (b : Begins p) → (u ≡ b.0) ⊎ (u < b.0) → Before W (u ∷ o) p
         against b (inl e) = against_same b e

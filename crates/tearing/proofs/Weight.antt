@@ -9,12 +9,30 @@ use Rattle.tearing.specs.Order.{Pick, Perm, none, next, Lex, end, less, same}
 use Rattle.tearing.specs.Weight.{into, weight, Before, Best, Least, all}
 use Rattle.tearing.proofs.Lists.{pick-length, sum-pick, sum_perm, sum_same, sum_mono}
 
+-- two comparisons of the same two orders, each way round
+lex_at : {o p o' p' : List ℕ} → Lex o p → Lex p' o' → o ≡ o' → p ≡ p' → o ≡ p
+lex_at end k e f = refl
+lex_at (less {u = u} {v = v} h) end e f = absurd (cc)
+lex_at (less {u = u} {v = v} h) (less {u = u'} {v = v'} k) e f =
+    let a : u ≡ v' = cc in
+    let b : v ≡ u' = cc in
+    absurd (omega arith)
+lex_at (less {u = u} {v = v} h) (same {u = u'} r) e f =
+    let a : u ≡ u' = cc in
+    let b : v ≡ u' = cc in
+    absurd (omega arith)
+lex_at (same {u = u} q) end e f = absurd (cc)
+lex_at (same {u = u} q) (less {u = u'} {v = v'} k) e f =
+    let a : u ≡ v' = cc in
+    let b : u ≡ u' = cc in
+    absurd (omega arith)
+lex_at (same {u = u} {o = o} {p = p} q) (same {o = p'} {p = o'} r) e f =
+    let a : o ≡ o' = cc in
+    let b : p ≡ p' = cc in
+    ap (λ (l : List ℕ). u ∷ l) (lex_at q r a b)
+
 lex_both : {o p : List ℕ} → Lex o p → Lex p o → o ≡ p
-lex_both end end = refl
-lex_both (less h) (less k) = absurd (omega arith)
-lex_both (less h) (same q) = absurd (omega arith)
-lex_both (same q) (less h) = absurd (omega arith)
-lex_both (same {u = u} q) (same r) = ap (λ (l : List ℕ). u ∷ l) (lex_both q r)
+lex_both q r = lex_at q r refl refl
 
 module _ (W : ℕ → ℕ → ℕ) where
   both : {o p : List ℕ} → Before W o p → Before W p o → o ≡ p

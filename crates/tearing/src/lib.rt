@@ -1,6 +1,7 @@
 // The order of a block's units that tears least: rules 2, 3 and 5. A unit is its place in the block, from 0 to at most 11, and the weights
 // are a row of twelve by twelve numbers, whatever they stand for. A table in the working memory holds, for each set of the places, the least that
 // an order of that set tears; it is filled in the sets' order, and the best order is read off it from the whole set down.
+#![tactic(auto)]
 ghost use Rattle.std.specs.Prelude.{◌≡◌, ℕ, ◌+◌, ◌*◌, ◌-◌, ◌^◌, ◌%◌, ◌<◌, ◌≤◌, min, length, get_or, drop};
 ghost use Rattle.tearing.specs.Row.{weights as weightsOf, total};
 ghost use Rattle.tearing.specs.Best.{best_row};
@@ -32,8 +33,8 @@ fn lower(n: usize) -> usize
 
 // Adds to the first numbers of a table of sums as many again: those of the same sets with one place more.
 fn double(weights: &[u32; 144], place: usize, size: usize, sums: &mut [u32; 768])
-    requires place_bound { (place < 12) × (size ≤ 384) × (length sums.old ≡ 768) }
-    requires by_index { (k : ℕ) → k < size → get_or sums.old k 0 + get_or weights.now (place * 12 + k % 12) 0 < 2 ^ 32 }
+    requires room { (place < 12) × (size ≤ 384) × (length sums.old ≡ 768) }
+    requires fits { (k : ℕ) → k < size → get_or sums.old k 0 + get_or weights.now (place * 12 + k % 12) 0 < 2 ^ 32 }
     ensures { Doubled weights.now place size size sums.old sums.new }
 {
     let mut k: usize = 0;
@@ -46,8 +47,8 @@ fn double(weights: &[u32; 144], place: usize, size: usize, sums: &mut [u32; 768]
 // What the streams into each place weigh together from each set of the places from `from` up to `to`. The table has the empty set's, which
 // are zero, already.
 fn half(weights: &[u32; 144], from: usize, to: usize, sums: &mut [u32; 768])
-    requires from_bound { (from ≤ 6) × (to ≤ from + 6) × (total weights.now < 2 ^ 32) }
-    requires sums_len { (length sums.old ≡ 768) × Summed (weightsOf weights.now) from sums.old 12 }
+    requires places { (from ≤ 6) × (to ≤ from + 6) × (total weights.now < 2 ^ 32) }
+    requires begun { (length sums.old ≡ 768) × Summed (weightsOf weights.now) from sums.old 12 }
     ensures { Summed (weightsOf weights.now) from sums.new (12 * 2 ^ (to - from)) }
 {
     let mut size: usize = 12;
@@ -89,8 +90,8 @@ fn least(low: &[u32; 768], high: &[u32; 768], n: usize, work: &[u8], m: usize) -
 
 // Fills the table, in the sets' order, for whatever weights W the two tables hold the sums of. What lies beyond its four bytes a set stays.
 fn fill(low: &[u32; 768], high: &[u32; 768], n: usize, work: &mut [u8])
-    requires n_bound { (n ≤ 12) × (4 * 2 ^ n ≤ length work.old) }
-    requires by_index { (W : ℕ → ℕ → ℕ) × Sums W n low.now high.now }
+    requires room { (n ≤ 12) × (4 * 2 ^ n ≤ length work.old) }
+    requires sums { (W : ℕ → ℕ → ℕ) × Sums W n low.now high.now }
     ensures filled { (W : ℕ → ℕ → ℕ) → Sums W n low.now high.now → Filled W n work.new (2 ^ n) }
     ensures beyond { drop (4 * 2 ^ n) work.new ≡ drop (4 * 2 ^ n) work.old }
 {
@@ -127,8 +128,8 @@ fn first(low: &[u32; 768], high: &[u32; 768], n: usize, work: &[u8], m: usize) -
 
 // Reads the best order off the table, filled for whatever weights W the two tables hold the sums of.
 fn read_off(low: &[u32; 768], high: &[u32; 768], n: usize, work: &[u8]) -> [u8; 12]
-    requires n_bound { (n ≤ 12) × (4 * 2 ^ n ≤ length work.now) }
-    requires by_index { (W : ℕ → ℕ → ℕ) × Sums W n low.now high.now × Filled W n work.now (2 ^ n) }
+    requires room { (n ≤ 12) × (4 * 2 ^ n ≤ length work.now) }
+    requires tables { (W : ℕ → ℕ → ℕ) × Sums W n low.now high.now × Filled W n work.now (2 ^ n) }
     ensures { (W : ℕ → ℕ → ℕ) → Sums W n low.now high.now → Filled W n work.now (2 ^ n) → result ≡ best_row W n }
 {
     let mut row: [u8; 12] = [0; 12];

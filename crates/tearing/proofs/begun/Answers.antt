@@ -1,0 +1,7 @@
+-- The rest of the set is the set less its digit, and the sum is within 32 bits as asked.
+use Rattle.std.proofs.Common.{arith}
+use Rattle.tearing.proofs.Bits.{bit_le}
+use Rattle.tearing.proofs.begun.Goals as goal
+
+pub overflow_sub-rest : goal.overflow_sub-rest
+overflow_sub-rest c = omega (arith, bit_le c.args.u c.args.m c.requires.2)
