@@ -2,6 +2,7 @@
 // are a row of twelve by twelve numbers, whatever they stand for. A table in the working memory holds, for each set of the places, the least that
 // an order of that set tears; it is filled in the sets' order, and the best order is read off it from the whole set down.
 #![tactic(auto)]
+
 ghost use Rattle.std.specs.Prelude.{◌≡◌, ℕ, ◌+◌, ◌*◌, ◌-◌, ◌^◌, ◌%◌, ◌<◌, ◌≤◌, min, length, get_or, drop};
 ghost use Rattle.tearing.specs.Row.{weights as weightsOf, total};
 ghost use Rattle.tearing.specs.Best.{best_row};
@@ -48,7 +49,7 @@ fn double(weights: &[u32; 144], place: usize, size: usize, sums: &mut [u32; 768]
 // are zero, already.
 fn half(weights: &[u32; 144], from: usize, to: usize, sums: &mut [u32; 768])
     requires places { (from ≤ 6) × (to ≤ from + 6) × (total weights.now < 2 ^ 32) }
-    requires begun { (length sums.old ≡ 768) × Summed (weightsOf weights.now) from sums.old 12 }
+    requires empty_set { (length sums.old ≡ 768) × Summed (weightsOf weights.now) from sums.old 12 }
     ensures { Summed (weightsOf weights.now) from sums.new (12 * 2 ^ (to - from)) }
 {
     let mut size: usize = 12;

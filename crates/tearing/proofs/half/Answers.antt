@@ -1,5 +1,5 @@
 -- A call of `double` stays within 32 bits by `doubled_fits`, and what it leaves are the sums of one place more, by `summed_more`.
-use Rattle.std.proofs.Common.{◌≡◌, ℕ, suc, ◌+◌, ◌*◌, ◌-◌, ◌^◌, ◌≤◌, ap, ◌∙◌, arith}
+use Rattle.std.proofs.Common.{◌≡◌, suc, ◌+◌, ◌-◌, ◌^◌, ◌≤◌, ◌∙◌, arith}
 use native.Mathlib.Nat.{pow-succ'}
 use lib.Pow.{pow_mono}
 use Rattle.tearing.proofs.Halves.{doubled_fits, summed_more}

@@ -1,5 +1,5 @@
 -- A member of the set is asked for within the table, and the lowest of all members is the least, by `min_lowest`.
-use Rattle.std.proofs.Common.{◌≡◌, ℕ, ◌^◌, ◌≤◌, arith}
+use Rattle.std.proofs.Common.{◌≡◌, ◌^◌, ◌≤◌, arith}
 use lib.Pow.{pow_mono}
 use Rattle.tearing.specs.Table.{bit}
 use Rattle.tearing.proofs.Lowest.{min_lowest}
