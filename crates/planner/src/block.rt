@@ -85,6 +85,7 @@ pub fn ordered(block: Units, streams: Streams, work: &mut [u8]) -> Units
 
 // Whether a stream is torn in this order of a block's units: both its ends are in the block, and its source doesn't stand
 // before its receiver.
+#[tactic(auto, unfolding(crate::specs::Plan::is_torn))]
 fn is_torn(order: Units, stream: Stream) -> bool
     ensures { result ≡ is_torn (held_units order) stream }
 {

@@ -29,6 +29,7 @@ fn put_table(buffer: &mut [u8], at: usize, table: Numbers)
 }
 
 // The header's eight numbers, of a plan with so many numbers in its tables.
+#[tactic(auto, unfolding(crate::specs::Image::plan_header))]
 fn header(blocks: usize, order: usize, torn: usize) -> [u16; 8]
     requires { (blocks ≤ 256) × (order ≤ 256) × (torn ≤ 256) }
     ensures { result ≡ plan_header blocks order torn }
