@@ -1,6 +1,6 @@
 -- What is returned, exactly: 0 or a number from 30 to 34, each when its line is the first of the table that holds. The lengths come
 -- before all else; the other lines are those of the step by value. Assumes nothing.
-use mathlib.Core.Bool.{Bool, true, false, not}
+use mathlib.Core.Bool.{Bool, true, false}
 use mathlib.Core.List.{List, [], ◌∷◌}
 use mathlib.Core.Logic.{◌⊎◌, inl, inr, ◌↔◌}
 use mathlib.Core.Path.{◌≡◌, refl, sym, ◌∙◌, ap, subst}

@@ -43,7 +43,10 @@ fn write_block<'a>(
         return Ok(());
     }
     print!(rt; "{}:", place + 1)?;
-    write_row(rt, planner::part(blocks, order, torn, place as u16, Asked::Units))?;
+    write_row(
+        rt,
+        planner::part(blocks, order, torn, place as u16, Asked::Units),
+    )?;
     print!(rt; " |")?;
     let tears = planner::part(blocks, order, torn, place as u16, Asked::Tears);
     if tears.len() == 0 {
