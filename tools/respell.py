@@ -4,8 +4,9 @@
 usage: python3 tools/respell.py [--list]     at the top of the repository, once, after port.py
 
 Types and modules keep their camel case; every other name that specs/ or proofs/ declares goes to snake case. A dash is
-kept between two names of functions, as in `length-padded`. Functions of src/, strings, inputs and outputs are not touched.
-With --list it writes the old and new names and changes nothing. It stops where two names would fall together.
+kept between two names of functions, as in `length-padded`. Functions of src/, strings, inputs and outputs are not touched,
+nor are the aliases of imports and the names of parameters. With --list it writes the old and new names and changes nothing.
+It stops where two names would fall together. It ran once, over the proofs of that time: a tree with answer files is refused.
 """
 
 import os
@@ -135,6 +136,9 @@ def of_source(text, new, fields):
 
 
 def main():
+    if any(path.endswith("/Answers.antt") and "/proofs/" in path and path.count("/") > 4 for path in files(".", ".antt")):
+        print("this tree has answer files: it was respelled before", file=sys.stderr)
+        return 1
     new, where, fields = renames(".")
     said = {}
     for a in where:

@@ -1,4 +1,4 @@
--- The rest of the set is the set less its digit, and the sum is within 32 bits as asked.
+-- The rest of the set is the set less the digit of its member u, which is no more than the set.
 use Rattle.std.proofs.Common.{arith}
 use Rattle.tearing.proofs.Bits.{bit_le}
 use Rattle.tearing.proofs.begun.Goals as goal

@@ -1,4 +1,4 @@
--- The loop has written i streams; the image keeps its length. The measure is the streams left.
+-- The loop leaves the image as long as it was. The measure is the streams left.
 use Rattle.std.proofs.Common.{◌≡◌, ◌-◌, ◌≤◌, length}
 use Rattle.cases.proofs.images.put_streams.Given as goal
 

@@ -1,4 +1,4 @@
--- The loop has written i units; the image keeps its length. The measure is the units left.
+-- The loop leaves the image as long as it was. The measure is the units left.
 use Rattle.std.proofs.Common.{◌≡◌, ◌-◌, ◌≤◌, length}
 use Rattle.cases.proofs.images.put_units.Given as goal
 
