@@ -1,4 +1,3 @@
 -- The laws that the crates above cite.
 pub mod Numbers
 pub mod Cleared
-pub mod Rows

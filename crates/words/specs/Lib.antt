@@ -1,3 +1,2 @@
 -- The definitions that the contracts of `words` and of the crates above it cite.
 pub mod Words
-pub mod Rows

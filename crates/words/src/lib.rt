@@ -2,68 +2,73 @@
 // Nothing here knows of flowsheets. Each function asks for what its callers can show: that the place lies in the row.
 #![tactic(auto)]
 
-ghost use Rattle.std.specs.Prelude.{◌≡◌, ◌+◌, ◌≤◌, ◌<◌, length};
+ghost use Rattle.std.specs.Prelude.{◌≡◌, ℕ, ◌+◌, ◌≤◌, length};
 ghost use Rattle.words.specs.Words.{number_at, with_number, cleared};
 
-fn wide(byte: u8) -> u16
-    ensures { (result ≡ byte) × (result < 256) }
-{
-    byte as u16
+// A type of number that stands in a row as so many bytes, the low one first.
+pub trait Word: Copy {
+    ghost width: { ℕ };
+
+    ghost number: { Self → ℕ };
+
+    // The number at `at`.
+    fn at(row: &[u8], at: usize) -> Self
+        requires { at + width ≤ length row.now }
+        ensures { number result ≡ number_at width row.now at };
+
+    // Writes the number at `at`; every other byte stays.
+    fn put(self, row: &mut [u8], at: usize)
+        requires { at + width ≤ length row.old }
+        ensures { row.new ≡ with_number width row.old at (number self) };
 }
 
-// The number of 16 bits at `at`.
-pub fn u16_at(row: &[u8], at: usize) -> u16
-    requires { at + 2 ≤ length row.now }
-    ensures { result ≡ number_at 2 row.now at }
-{
-    wide(row[at]) + 256 * wide(row[at + 1])
+impl Word for u16 {
+    ghost width = { 2 };
+
+    ghost number = { λ n. n };
+
+    fn at(row: &[u8], at: usize) -> u16 {
+        u16::from(row[at]) + 256 * u16::from(row[at + 1])
+    }
+
+    fn put(self, row: &mut [u8], at: usize) {
+        row[at] = (self % 256) as u8;
+        row[at + 1] = (self / 256) as u8;
+    }
 }
 
-// The number of 32 bits at `at`.
-pub fn u32_at(row: &[u8], at: usize) -> u32
-    requires { at + 4 ≤ length row.now }
-    ensures { result ≡ number_at 4 row.now at }
-{
-    let low = u16_at(row, at);
-    let high = u16_at(row, at + 2);
-    (low as u32) + 65536 * (high as u32)
+impl Word for u32 {
+    ghost width = { 4 };
+
+    ghost number = { λ n. n };
+
+    fn at(row: &[u8], at: usize) -> u32 {
+        u32::from(u16::at(row, at)) + 65536 * u32::from(u16::at(row, at + 2))
+    }
+
+    fn put(self, row: &mut [u8], at: usize) {
+        let low = (self % 65536) as u16;
+        let high = (self / 65536) as u16;
+        low.put(row, at);
+        high.put(row, at + 2);
+    }
 }
 
-// The number of 64 bits at `at`.
-pub fn u64_at(row: &[u8], at: usize) -> u64
-    requires { at + 8 ≤ length row.now }
-    ensures { result ≡ number_at 8 row.now at }
-{
-    let low = u32_at(row, at);
-    let high = u32_at(row, at + 4);
-    (low as u64) + 4294967296 * (high as u64)
-}
+impl Word for u64 {
+    ghost width = { 8 };
 
-// Writes a number of 16 bits at `at`; every other byte stays.
-pub fn put_u16(row: &mut [u8], at: usize, number: u16)
-    requires { at + 2 ≤ length row.old }
-    ensures { row.new ≡ with_number 2 row.old at number }
-{
-    row[at] = (number % 256) as u8;
-    row[at + 1] = (number / 256 % 256) as u8;
-}
+    ghost number = { λ n. n };
 
-// Writes a number of 32 bits at `at`; every other byte stays.
-pub fn put_u32(row: &mut [u8], at: usize, number: u32)
-    requires { at + 4 ≤ length row.old }
-    ensures { row.new ≡ with_number 4 row.old at number }
-{
-    put_u16(row, at, (number % 65536) as u16);
-    put_u16(row, at + 2, (number / 65536 % 65536) as u16);
-}
+    fn at(row: &[u8], at: usize) -> u64 {
+        u64::from(u32::at(row, at)) + 4294967296 * u64::from(u32::at(row, at + 4))
+    }
 
-// Writes a number of 64 bits at `at`; every other byte stays.
-pub fn put_u64(row: &mut [u8], at: usize, number: u64)
-    requires { at + 8 ≤ length row.old }
-    ensures { row.new ≡ with_number 8 row.old at number }
-{
-    put_u32(row, at, (number % 4294967296) as u32);
-    put_u32(row, at + 4, (number / 4294967296 % 4294967296) as u32);
+    fn put(self, row: &mut [u8], at: usize) {
+        let low = (self % 4294967296) as u32;
+        let high = (self / 4294967296) as u32;
+        low.put(row, at);
+        high.put(row, at + 4);
+    }
 }
 
 // Sets the first `count` bytes to zero; the rest stay.
@@ -71,9 +76,5 @@ pub fn clear_front(row: &mut [u8], count: usize)
     requires { count ≤ length row.old }
     ensures { row.new ≡ cleared row.old count }
 {
-    let mut i: usize = 0;
-    while i < count {
-        row[i] = 0;
-        i += 1;
-    }
+    row[..count].fill(0);
 }

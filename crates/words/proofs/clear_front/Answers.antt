@@ -1,12 +1,11 @@
--- One byte more is cleared in each turn, by `cleared_more`.
-use Rattle.std.proofs.Common.{List, ℕ, ap, ◌∙◌, arith, set}
-use Rattle.words.proofs.Cleared.{cleared_none, cleared_more}
+-- The front is filled with zeros, as many as it has bytes.
+use Rattle.std.proofs.Common.{List, ℕ, ap, ◌∙◌, ◌++◌, drop, length-take-le}
+use Rattle.std.specs.Prelude.{replicate}
+use Rattle.words.specs.Words.{cleared}
 use Rattle.words.proofs.clear_front.Goals as goal
 
-pub loop-i-init : goal.loop-i-init
-loop-i-init c = (omega arith, cleared_none c.args.row.now)
-
-pub loop-i-preserved : goal.loop-i-preserved
-loop-i-preserved c =
-    let l = c.loop-i in
-    (omega arith, ap (λ (k : List ℕ). set k l.i 0) l.invariant.1 ∙ cleared_more c.args.row.now l.i (omega arith))
+pub returns : goal.returns
+unfolding cleared
+returns c =
+    ap (λ (front : List ℕ). front ++ drop c.args.count c.args.row.now) (c.fill.ensures.after (λ y e. e))
+    ∙ ap (λ (k : ℕ). replicate k 0 ++ drop c.args.count c.args.row.now) (length-take-le c.args.count c.args.row.now c.requires)

@@ -7,8 +7,9 @@ use native.Mathlib.Nat.{eq-or-lt_of_le, le_of_suc-le-suc}
 use native.Mathlib.Numerals.{add-one}
 use native.Mathlib.Omega.{arith}
 use lib.ListN.{length, get_or, set, take, replicate, length-append, length-replicate, get_or-append}
+use Rattle.std.proofs.lemmas.List.{length-take-le, take_more_set}
 use lib.Seq.{sets, take_at, set-append_seam, append_snoc, get_or-append_seam}
-use Rattle.words.specs.Rows.{padded, table}
+use Rattle.rows.specs.Rows.{padded, table}
 
 module _ {A : Type 0} where
   pub length-padded : (n : ℕ) (d : A) (xs : List A) → length xs ≤ n → length (padded n d xs) ≡ n
@@ -26,6 +27,17 @@ module _ {A : Type 0} where
       let e : n - length xs ≡ suc (n - suc (length xs)) = omega arith in
       let f : n - length (xs ++ (v ∷ [])) ≡ n - suc (length xs) = rw length-append (omega arith) in
       rw (e, set-append_seam, f, append_snoc)
+
+  -- a store at the first blank place of a row of n places leaves the places beyond it blank
+  pub blank_beyond : (n : ℕ) (d : A) (count : ℕ) (places : List A) (v : A) → count < n → length places ≡ n
+      → places ≡ padded n d (take count places)
+      → set places count v ≡ padded n d (take (count + 1) (set places count v))
+  blank_beyond n d count places v h e p =
+      let l : length (take count places) ≡ count = length-take-le count places (omega (arith, h, e)) in
+      ap (λ (xs : List A). set xs count v) p
+      ∙ ap (λ (k : ℕ). set (padded n d (take count places)) k v) (sym l)
+      ∙ padded_more n d (take count places) v (rw l h)
+      ∙ ap (padded n d) (sym (take_more_set places count v (rw e h)))
 
   -- so do stores one after the other
   pub padded-sets : (n : ℕ) (d : A) (xs ys : List A) → length xs + length ys ≤ n → sets (padded n d xs) (length xs) ys ≡ padded n d (xs ++ ys)

@@ -1,0 +1,2 @@
+-- The definitions that the contracts of `rows` and of the crates above it cite.
+pub mod Rows

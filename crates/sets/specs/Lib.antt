@@ -1,0 +1,2 @@
+-- The definitions that the contracts of `sets` and of the crates above it cite.
+pub mod Sets
