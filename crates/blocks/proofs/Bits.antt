@@ -2,18 +2,18 @@
 -- which is one induction for both. Assumes nothing.
 use mathlib.Core.Path.{◌≡◌, refl, sym, ap, ◌∙◌}
 use mathlib.Core.Logic.{◌⊎◌, inl, inr, ⊎_elim}
+use mathlib.Core.Bool.{false}
 use Prim.Native.Nat.{ℕ, zero, suc, ◌+◌, ◌*◌, ◌/◌, ◌%◌, ◌^◌, ◌<◌, min, max}
 use native.Mathlib.Omega.{arith}
-use native.Mathlib.Nat.{pow-succ', div-one, div-div-eq-div-mul}
+use native.Mathlib.Nat.{pow-succ'}
 use native.Mathlib.Decide.{ℕ_discrete}
+use borrow.Author.Tests.{eqb-false}
 use lib.Arith.{bin_ind}
 use lib.Bits.{bit_or, bit_and, or_step, and_step}
-use Rattle.blocks.specs.Links.{bit}
+use Rattle.std.specs.Prelude.{◌==◌}
+use Rattle.sets.specs.Sets.{bit}
 use Rattle.blocks.specs.Reach.{joined}
-
-pub bit_lt : (j m : ℕ) → bit j m < 2
-bit_lt zero m = omega arith
-bit_lt (suc j) m = bit_lt j (m / 2)
+use Rattle.sets.proofs.Sets.{bit_lt}
 
 pub bit_cases : (j m : ℕ) → (bit j m ≡ 0) ⊎ (bit j m ≡ 1)
 bit_cases j m = go (bit j m) (bit_lt j m)
@@ -23,14 +23,13 @@ bit_cases j m = go (bit j m) (bit_lt j m)
     go (suc zero) h = inr refl
     go (suc (suc b)) h = absurd (omega arith)
 
+-- a place that a test doesn't find in a set has the digit 0
+pub bit_off : (j m : ℕ) → (bit j m == 1) ≡ false → bit j m ≡ 0
+bit_off j m h = ⊎_elim (λ z. z) (λ o. absurd (eqb-false (bit j m) 1 h o)) (bit_cases j m)
+
 pub bit_zero : (j : ℕ) → bit j 0 ≡ 0
 bit_zero zero = refl
 bit_zero (suc j) = bit_zero j
-
--- the code's form of it
-pub bit_shr : (j m : ℕ) → bit j m ≡ m / 2 ^ j % 2
-bit_shr zero m = ap (λ (x : ℕ). x % 2) (sym (div-one m))
-bit_shr (suc j) m = rw (pow-succ' 2 j, ← div-div-eq-div-mul m 2 (2 ^ j)) (bit_shr j (m / 2))
 
 -- ---- the set of one place
 

@@ -4,9 +4,10 @@ use mathlib.Core.Logic.{◌⊎◌, inl, inr, ◌↔◌}
 use mathlib.Core.List.{List, Memᴰ}
 use Prim.Native.Nat.{ℕ, ◌<◌, ◌≤◌}
 use lib.ListN.{length}
-use Rattle.blocks.specs.Links.{bit, Link, SameBlock}
+use Rattle.blocks.specs.Links.{Link, SameBlock}
+use Rattle.sets.specs.Sets.{bit, members}
 use Rattle.blocks.specs.Reach.{reach_of}
-use Rattle.blocks.specs.Blocks.{block_of, places_of, members_of, Rising}
+use Rattle.blocks.specs.Blocks.{block_of, members_of, Rising}
 use Rattle.blocks.proofs.Rounds.{reach_exact}
 use Rattle.blocks.proofs.Places.{block_bit, places_has, places_only, places_rising, places_most, rising_unique}
 
@@ -27,7 +28,7 @@ pub members_exact : (t : List ℕ) → length t ≡ 64 → (n i j : ℕ) → Mem
 unfolding members_of
 members_exact t e n i j = (there, λ s. places_has n (block_of (reach_of t) n i) j s.0 ((block_exact t e n i j s.0).1 s.1))
   where
-    there : Memᴰ j (places_of n (block_of (reach_of t) n i)) → (j < n) × SameBlock (Link t) i j
+    there : Memᴰ j (members n (block_of (reach_of t) n i)) → (j < n) × SameBlock (Link t) i j
     there p = let s = places_only n (block_of (reach_of t) n i) j p in (s.0, (block_exact t e n i j s.0).0 s.1)
 
 pub members_rising : (t : List ℕ) (n i : ℕ) → Rising (members_of t n i)

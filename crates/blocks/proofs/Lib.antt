@@ -4,6 +4,7 @@ pub mod Links
 pub mod Paths
 pub mod Rounds
 pub mod Places
+pub mod Lowest
 pub mod Turns
 pub mod Blocks
 pub mod Rule4

@@ -8,7 +8,8 @@ use native.Mathlib.Decide.{ℕ_discrete}
 use lib.Bits.{bit_or}
 use lib.ListN.{length, get_or, set, replicate}
 use lib.Seq.{get_or-set_same, get_or-set_other}
-use Rattle.blocks.specs.Links.{linked, bit, Link}
+use Rattle.blocks.specs.Links.{linked, Link}
+use Rattle.sets.specs.Sets.{bit}
 use Rattle.blocks.proofs.Bits.{bit_zero, bit_one, bit_one_same, or_left, or_right, or_either}
 
 get_or_zeros : (n i : ℕ) → ◌≡◌ {A = ℕ} (get_or (replicate n 0) i 0) 0

@@ -1,6 +1,6 @@
 -- The computed order follows rule 4. The set of what is placed marks the blocks listed so far, and what feeds them is among them: then
 -- a place is free exactly when it is ready, so the lowest free place comes next, and each turn places one more. Assumes nothing.
-use mathlib.Core.Path.{◌≡◌, refl, sym, ◌∙◌, subst}
+use mathlib.Core.Path.{◌≡◌, refl, sym, subst}
 use mathlib.Core.Logic.{◌⊎◌, inl, inr, ⊎_elim, ◌↔◌}
 use mathlib.Core.Bool.{Bool, true, false, ◌&&◌, true≢false}
 use mathlib.Core.List.Memᴰ
@@ -11,13 +11,14 @@ use native.Mathlib.Decide.{dec_lt}
 use lib.Bits.{bit_or}
 use lib.Dec.{eqb, ltb}
 use lib.ListN.{length, get_or}
-use borrow.Author.Tests.{eqb-true, eq-eqb, ne_eqb, ltb-true, lt-ltb, le-ltb}
-use Rattle.blocks.specs.Links.{bit, Link, Path, link, SameBlock}
+use borrow.Author.Tests.{eqb-true, eq-eqb, ltb-true, lt-ltb, le-ltb}
+use Rattle.blocks.specs.Links.{Link, Path, link, SameBlock}
+use Rattle.sets.specs.Sets.{bit, members}
 use Rattle.blocks.specs.Reach.{reach_of}
-use Rattle.blocks.specs.Blocks.{column_of, block_of, places_of, members_of, counts_of}
+use Rattle.blocks.specs.Blocks.{column_of, block_of, members_of, counts_of}
 use Rattle.blocks.specs.Order.{pick, within, free, lowest_free, order_from, order_of}
 use Rattle.blocks.specs.Rule4.{Placed, Ready, Follows, end, next, Rule4}
-use Rattle.blocks.proofs.Below.{each}
+use Rattle.blocks.proofs.Lowest.{Lowest, lowest_is}
 use Rattle.blocks.proofs.Bits.{bit_cases, bit_zero, or_left, or_right, or_either, or_within, within_or}
 use Rattle.blocks.proofs.Paths.{path_to, same_to, same_sym}
 use Rattle.blocks.proofs.Rounds.{reach_exact, path?}
@@ -27,10 +28,6 @@ use Rattle.blocks.proofs.Rule4.{placed_same, placed_left, placed_last, placed_ei
 use Rattle.blocks.proofs.Free.{placed?, ready_exists, Fed, fed_none, fed_more, fed_path}
 
 -- ---- a test that computes, and what it says
-
-bool_cases : (b : Bool) → (b ≡ true) ⊎ (b ≡ false)
-bool_cases true = inl refl
-bool_cases false = inr refl
 
 both_true : (a b : Bool) → (a && b) ≡ true → (a ≡ true) × (b ≡ true)
 both_true true b e = (refl, e)
@@ -57,29 +54,6 @@ clear_free t n placed i s =
     inside j e =
         let c = column_only t n i j e in
         ⊎_elim (or_left j (get_or t i 0) placed) (or_right j (get_or t i 0) placed) (s.1 j c.0 c.1)
-
--- ---- the lowest free place
-
--- none below k is free, or x is the lowest that is
-abbrev Lowest : List ℕ → ℕ → ℕ → ℕ → ℕ → Type 0
-Lowest t n placed k x =
-    ((x ≡ n) × ((j : ℕ) → j < k → free t n placed j ≡ true → ⊥))
-    ⊎ ((x < k) × (free t n placed x ≡ true) × ((j : ℕ) → j < x → free t n placed j ≡ true → ⊥))
-
-lowest_step : (t : List ℕ) (n placed k x : ℕ) → k < n → Lowest t n placed k x → (free t n placed k ≡ true) ⊎ (free t n placed k ≡ false)
-    → Lowest t n placed (suc k) (pick (eqb x n) (pick (free t n placed k) k n) x)
-lowest_step t n placed k x h (inl s) (inl f) =
-    rw (eq-eqb x n s.0, f) (inr (omega arith, f, s.1))
-lowest_step t n placed k x h (inl s) (inr f) =
-    rw (eq-eqb x n s.0, f) (inl (refl, each (λ (j : ℕ). free t n placed j ≡ true → ⊥) k s.1 (λ e. true≢false (sym e ∙ f))))
-lowest_step t n placed k x h (inr s) f =
-    rw (ne_eqb x n (λ e. omega (arith, s.0))) (inr (omega (arith, s.0), s.1, s.2))
-
-lowest_is : (t : List ℕ) (n placed k : ℕ) → k ≤ n → Lowest t n placed k (lowest_free t n placed k)
-unfolding lowest_free
-lowest_is t n placed zero h = inl (refl, λ j l. absurd (omega arith))
-lowest_is t n placed (suc k) h =
-    lowest_step t n placed k (lowest_free t n placed k) h (lowest_is t n placed k (omega arith)) (bool_cases (free t n placed k))
 
 -- ---- the order
 
@@ -170,7 +144,7 @@ module _ (t : List ℕ) (size : length t ≡ 64) (n : ℕ) (inside : (a b : ℕ)
   -- the order of what isn't placed, where f blocks are enough
   abbrev Goes : ℕ → Type 0
   Goes f =
-      (placed : ℕ) (done : List ℕ) → Marks placed done → Fed (Link t) done → n ≤ length (places_of n placed) + f
+      (placed : ℕ) (done : List ℕ) → Marks placed done → Fed (Link t) done → n ≤ length (members n placed) + f
       → Follows (Link t) n done (order_from (reach_of t) n f placed)
 
   order_follows : (f : ℕ) → Goes f
@@ -215,7 +189,7 @@ module _ (t : List ℕ) (size : length t ≡ 64) (n : ℕ) (inside : (a b : ℕ)
   pub order_only : (o : List ℕ) → Rule4 (Link t) n o → o ≡ order_of (reach_of t) n
   order_only o r = rule4_unique r order_rule4
 
-  counts_follow : {done o : List ℕ} (placed : ℕ) → Marks placed done → Follows (Link t) n done o → counts_of (reach_of t) n o + length (places_of n placed) ≡ n
+  counts_follow : {done o : List ℕ} (placed : ℕ) → Marks placed done → Follows (Link t) n done o → counts_of (reach_of t) n o + length (members n placed) ≡ n
   unfolding members_of
   counts_follow placed marks (end f) = omega (arith, places_all n placed (λ j h. (marks j h).1 (f j h)))
   counts_follow placed marks (next {i = i} {done = done} h r) =

@@ -1,19 +1,23 @@
--- Sets of places as numbers: the column of a table, the set of a block, the list of a set's places, and a list in a row of 64. The
--- list grows at its end, as the loop that writes it does. Assumes nothing.
-use mathlib.Core.Path.{◌≡◌, refl, sym, ap, ◌∙◌, subst}
+-- Sets of places as numbers: the column of a table, the set of a block, and the list of a set's places. The list grows at its end,
+-- as the loop that fills it does. Assumes nothing.
+use mathlib.Core.Path.{◌≡◌, refl, sym, ap, subst}
 use mathlib.Core.Logic.{◌⊎◌, inl, inr, ⊎_elim, ◌↔◌}
+use mathlib.Core.Bool.{true, false}
 use mathlib.Core.List.Memᴰ
-use mathlib.Core.List.{List, [], ◌∷◌, ◌++◌, append-nil, append_assoc, Memᴰ}
-use Prim.Native.Nat.{ℕ, zero, suc, ◌+◌, ◌-◌, ◌^◌, ◌<◌, ◌≤◌}
+use mathlib.Core.List.{List, [], ◌∷◌, ◌++◌, append-nil, Memᴰ}
+use Prim.Native.Nat.{ℕ, zero, suc, ◌+◌, ◌^◌, ◌<◌, ◌≤◌}
 use native.Mathlib.Omega.{arith}
+use native.Mathlib.Numerals.{add-one}
+use borrow.Author.Tests.{eqb-true}
 use lib.Bits.{bit_or, bit_and}
-use lib.ListN.{length, get_or, set, take, replicate, length-append, get_or-append}
-use lib.Seq.{set-append_seam, take-append_seam}
-use Rattle.blocks.specs.Links.{bit, Link}
-use Rattle.blocks.specs.Blocks.{column_of, block_of, only, places_of, Rising, none, first}
-use Rattle.blocks.specs.Answers.{padded, Holds}
+use lib.ListN.{length, get_or, length-append}
+use Rattle.blocks.specs.Links.{Link}
+use Rattle.std.specs.Prelude.{◌==◌}
+use Rattle.sets.specs.Sets.{bit, only, members}
+use Rattle.blocks.specs.Blocks.{column_of, block_of, Rising, none, first}
 use Rattle.blocks.proofs.Below.{each}
-use Rattle.blocks.proofs.Bits.{bit_lt, bit_cases, bit_zero, bit_one, bit_one_same, bit-bit_or, or_left, or_right, or_either, and_both, and_left, and_right, joined_keeps, joined_adds, joined_either}
+use Rattle.blocks.proofs.Bits.{bit_off, bit_cases, bit_zero, bit_one, bit_one_same, bit-bit_or, or_left, or_right, or_either, and_both, and_left, and_right, joined_keeps, joined_adds, joined_either}
+use Rattle.sets.proofs.Sets.{bit_lt}
 
 -- ---- the places that reach i
 
@@ -63,32 +67,35 @@ block_bit t n i j h = (λ e. ⊎_elim inner own (or_either j (bit_and (get_or t 
 
 -- ---- the places of a set
 
-pub places_one : (k m : ℕ) → bit k m ≡ 1 → places_of (suc k) m ≡ places_of k m ++ (k ∷ [])
-unfolding places_of
+places_one : (k m : ℕ) → bit k m ≡ 1 → members (suc k) m ≡ members k m ++ (k ∷ [])
+unfolding members
 places_one k m h = rw h
 
-places_none : (k m : ℕ) → bit k m ≡ 0 → places_of (suc k) m ≡ places_of k m
-unfolding places_of
-places_none k m h = rw h (append-nil (places_of k m))
+places_none : (k m : ℕ) → bit k m ≡ 0 → members (suc k) m ≡ members k m
+unfolding members
+places_none k m h = rw h (append-nil (members k m))
 
-pub places_skip : (k m : ℕ) → (bit k m ≡ 1 → ⊥) → places_of (suc k) m ≡ places_of k m
-places_skip k m f = places_none k m (omega (arith, bit_lt k m))
+pub places_joins : (k m : ℕ) → (bit k m == 1) ≡ true → members k m ++ (k ∷ []) ≡ members (k + 1) m
+places_joins k m f = rw add-one (sym (places_one k m (eqb-true (bit k m) 1 f)))
 
-pub places_length : (k m : ℕ) → length (places_of (suc k) m) ≡ length (places_of k m) + bit k m
+pub places_stays : (k m : ℕ) → (bit k m == 1) ≡ false → members k m ≡ members (k + 1) m
+places_stays k m f = rw add-one (sym (places_none k m (bit_off k m f)))
+
+pub places_length : (k m : ℕ) → length (members (suc k) m) ≡ length (members k m) + bit k m
 places_length k m =
     ⊎_elim
     (λ (z : bit k m ≡ 0). omega (arith, ap length (places_none k m z)))
-    (λ (o : bit k m ≡ 1). omega (arith, ap length (places_one k m o), length-append (places_of k m) (k ∷ [])))
+    (λ (o : bit k m ≡ 1). omega (arith, ap length (places_one k m o), length-append (members k m) (k ∷ [])))
     (bit_cases k m)
 
-pub places_most : (k m : ℕ) → length (places_of k m) ≤ k
-unfolding places_of
+pub places_most : (k m : ℕ) → length (members k m) ≤ k
+unfolding members
 places_most zero m = omega arith
 places_most (suc k) m = omega (arith, places_length k m, places_most k m, bit_lt k m)
 
 -- a set that holds more places is longer
-pub places_more : (k m m' : ℕ) → ((j : ℕ) → bit j m ≡ 1 → bit j m' ≡ 1) → length (places_of k m) ≤ length (places_of k m')
-unfolding places_of
+pub places_more : (k m m' : ℕ) → ((j : ℕ) → bit j m ≡ 1 → bit j m' ≡ 1) → length (members k m) ≤ length (members k m')
+unfolding members
 places_more zero m m' f = omega arith
 places_more (suc k) m m' f =
     let r = places_more k m m' f in
@@ -98,15 +105,15 @@ places_more (suc k) m m' f =
     (bit_cases k m)
 
 pub places_gain : (k m m' i : ℕ) → ((j : ℕ) → bit j m ≡ 1 → bit j m' ≡ 1) → i < k → bit i m ≡ 0 → bit i m' ≡ 1
-    → length (places_of k m) < length (places_of k m')
+    → length (members k m) < length (members k m')
 places_gain zero m m' i f h z o = absurd (omega arith)
 places_gain (suc k) m m' i f h z o =
-    each (λ (x : ℕ). bit x m ≡ 0 → bit x m' ≡ 1 → length (places_of (suc k) m) < length (places_of (suc k) m')) k
+    each (λ (x : ℕ). bit x m ≡ 0 → bit x m' ≡ 1 → length (members (suc k) m) < length (members (suc k) m')) k
     (λ x l q r. grown (places_gain k m m' x f l q r))
     (λ q r. omega (arith, places_length k m, places_length k m', places_more k m m' f))
     i h z o
   where
-    grown : length (places_of k m) < length (places_of k m') → length (places_of (suc k) m) < length (places_of (suc k) m')
+    grown : length (members k m) < length (members k m') → length (members (suc k) m) < length (members (suc k) m')
     grown r =
         ⊎_elim
         (λ (q : bit k m ≡ 0). omega (arith, places_length k m, places_length k m'))
@@ -114,7 +121,7 @@ places_gain (suc k) m m' i f h z o =
         (bit_cases k m)
 
 -- a set of as many places as there are holds each
-pub places_full : (k m : ℕ) → k ≤ length (places_of k m) → (j : ℕ) → j < k → bit j m ≡ 1
+pub places_full : (k m : ℕ) → k ≤ length (members k m) → (j : ℕ) → j < k → bit j m ≡ 1
 places_full zero m h j l = absurd (omega arith)
 places_full (suc k) m h j l =
     let b = places_most k m in
@@ -122,20 +129,20 @@ places_full (suc k) m h j l =
     each (λ (x : ℕ). bit x m ≡ 1) k (places_full k m (omega (arith, places_length k m))) o j l
 
 -- and a set that holds each has as many
-pub places_all : (k m : ℕ) → ((j : ℕ) → j < k → bit j m ≡ 1) → length (places_of k m) ≡ k
-unfolding places_of
+pub places_all : (k m : ℕ) → ((j : ℕ) → j < k → bit j m ≡ 1) → length (members k m) ≡ k
+unfolding members
 places_all zero m f = refl
 places_all (suc k) m f = omega (arith, places_length k m, f k (omega arith), places_all k m (λ j h. f j (omega arith)))
 
-pub places_zero : (k : ℕ) → length (places_of k 0) ≡ 0
-unfolding places_of
+pub places_zero : (k : ℕ) → length (members k 0) ≡ 0
+unfolding members
 places_zero zero = refl
 places_zero (suc k) = omega (arith, places_length k 0, bit_zero k, places_zero k)
 
 -- two sets with no place in common have together as many places as both
 pub places_join : (k a b : ℕ) → ((j : ℕ) → j < k → bit j a ≡ 1 → bit j b ≡ 1 → ⊥)
-    → length (places_of k (bit_or a b)) ≡ length (places_of k a) + length (places_of k b)
-unfolding places_of
+    → length (members k (bit_or a b)) ≡ length (members k a) + length (members k b)
+unfolding members
 places_join zero a b f = refl
 places_join (suc k) a b f =
     let r = places_join k a b (λ j h. f j (omega arith)) in
@@ -146,24 +153,24 @@ places_join (suc k) a b f =
     (bit_cases k a) in
     omega (arith, places_length k (bit_or a b), places_length k a, places_length k b)
 
-pub places_has : (k m j : ℕ) → j < k → bit j m ≡ 1 → Memᴰ j (places_of k m)
-unfolding places_of
+pub places_has : (k m j : ℕ) → j < k → bit j m ≡ 1 → Memᴰ j (members k m)
+unfolding members
 places_has zero m j h e = absurd (omega arith)
 places_has (suc k) m j h e =
-    each (λ (x : ℕ). bit x m ≡ 1 → Memᴰ x (places_of (suc k) m)) k
+    each (λ (x : ℕ). bit x m ≡ 1 → Memᴰ x (members (suc k) m)) k
     (λ x l q. Memᴰ.append_left (only (bit k m) k) (places_has k m x l q))
-    (λ q. rw (places_one k m q) (Memᴰ.append_right (places_of k m) (Memᴰ.head refl)))
+    (λ q. rw (places_one k m q) (Memᴰ.append_right (members k m) (Memᴰ.head refl)))
     j h e
 
 only_is : (b k j : ℕ) → Memᴰ j (only b k) → (j ≡ k) × (0 < b)
 only_is zero k j p = absurd (Memᴰ.not-nil p)
 only_is (suc b) k j p = (Memᴰ.eq_of_singleton p, omega arith)
 
-pub places_only : (k m j : ℕ) → Memᴰ j (places_of k m) → (j < k) × (bit j m ≡ 1)
-unfolding places_of
+pub places_only : (k m j : ℕ) → Memᴰ j (members k m) → (j < k) × (bit j m ≡ 1)
+unfolding members
 places_only zero m j p = absurd (Memᴰ.not-nil p)
 places_only (suc k) m j p =
-    ⊎_elim (λ q. old (places_only k m j q)) (λ q. new (only_is (bit k m) k j q)) (Memᴰ.append_cases (places_of k m) p)
+    ⊎_elim (λ q. old (places_only k m j q)) (λ q. new (only_is (bit k m) k j q)) (Memᴰ.append_cases (members k m) p)
   where
     old : (j < k) × (bit j m ≡ 1) → (j < suc k) × (bit j m ≡ 1)
     old s = (omega (arith, s.0), s.1)
@@ -185,12 +192,12 @@ rising_more {k = k} (first {k = x} {l = l} g r) f = first above (rising_more r (
         (λ q. omega (arith, Memᴰ.eq_of_singleton q, f x (Memᴰ.head refl)))
         (Memᴰ.append_cases l p)
 
-pub places_rising : (k m : ℕ) → Rising (places_of k m)
-unfolding places_of
+pub places_rising : (k m : ℕ) → Rising (members k m)
+unfolding members
 places_rising zero m = none
 places_rising (suc k) m = go (places_rising k m) (bit_cases k m)
   where
-    go : Rising (places_of k m) → (bit k m ≡ 0) ⊎ (bit k m ≡ 1) → Rising (places_of k m ++ only (bit k m) k)
+    go : Rising (members k m) → (bit k m ≡ 0) ⊎ (bit k m ≡ 1) → Rising (members k m ++ only (bit k m) k)
     go r (inl z) = rw (z, append-nil) r
     go r (inr o) = rw o (rising_more r (λ j p. (places_only k m j p).0))
 
@@ -215,38 +222,3 @@ rising_unique (first {k = x} {l = l} a r) (first {k = y} {l = p} b s) f g =
     beyond : {j u v : ℕ} {o : List ℕ} → u ≡ v → u < j → (j ≡ v) ⊎ Memᴰ j o → Memᴰ j o
     beyond e h (inl q) = absurd (omega arith)
     beyond e h (inr m) = m
-
--- ---- a list in a row of 64
-
-pub holds_none : Holds [] 0 (replicate 64 0)
-unfolding padded
-holds_none = record { many = refl; places = refl }
-
-pub holds_more : {l row : List ℕ} {count : ℕ} (k : ℕ) → Holds l count row → count < 64 → Holds (l ++ (k ∷ [])) (count + 1) (set row count k)
-unfolding padded
-holds_more {l} {row} {count} k s h =
-    let e : 64 - length l ≡ suc (64 - length (l ++ (k ∷ []))) = omega (arith, length-append l (k ∷ []), s.many) in
-    record {
-      many = omega (arith, length-append l (k ∷ []), s.many);
-      places =
-          rw (s.places, s.many, e, append_assoc) (set-append_seam l 0 (replicate (64 - length (l ++ (k ∷ []))) 0) k);
-    }
-
--- the list is the front of the row, so two lists that a row holds are equal
-pub holds_front : {l row : List ℕ} {count : ℕ} → Holds l count row → take count row ≡ l
-unfolding padded
-holds_front {l} s = rw (s.places, s.many) (take-append_seam l (replicate (64 - length l) 0))
-
-pub holds_at : {l row : List ℕ} {count : ℕ} → Holds l count row → (k : ℕ) → k < count → get_or row k 0 ≡ get_or l k 0
-unfolding padded
-holds_at {l} s k h =
-    ap (λ (x : List ℕ). get_or x k 0) s.places ∙ get_or-append l (replicate (64 - length l) 0) 0 k (omega (arith, s.many))
-
-mem_at : (l : List ℕ) (k : ℕ) → k < length l → Memᴰ (get_or l k 0) l
-mem_at [] k h = absurd (omega arith)
-mem_at (x ∷ l) zero h = Memᴰ.head refl
-mem_at (x ∷ l) (suc k) h = Memᴰ.tail (mem_at l k (omega arith))
-
--- each place of the row's front is one of the list
-pub holds_mem : {l row : List ℕ} {count : ℕ} → Holds l count row → (k : ℕ) → k < count → Memᴰ (get_or row k 0) l
-holds_mem {l} s k h = Memᴰ.cast (holds_at s k h) (mem_at l k (omega (arith, s.many)))

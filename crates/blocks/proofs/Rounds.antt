@@ -7,10 +7,12 @@ use Prim.Native.Nat.{ℕ, zero, suc, ◌<◌, ◌≤◌}
 use native.Mathlib.Omega.{arith}
 use native.Mathlib.Decide.{dec_lt}
 use lib.ListN.{length, get_or, get_or-eq_default}
-use Rattle.blocks.specs.Links.{bit, Link, Path, link, onward}
+use Rattle.blocks.specs.Links.{Link, Path, link, onward}
+use Rattle.sets.specs.Sets.{bit}
 use Rattle.blocks.specs.Reach.{joined, round_of, rounds_of, reach_of}
 use Rattle.blocks.proofs.Below.{each}
-use Rattle.blocks.proofs.Bits.{bit_lt, bit_cases, bit_zero, joined_keeps, joined_adds, joined_either}
+use Rattle.blocks.proofs.Bits.{bit_cases, bit_zero, joined_keeps, joined_adds, joined_either}
+use Rattle.sets.proofs.Sets.{bit_lt}
 use Rattle.blocks.proofs.Paths.{path_trans}
 
 get_d_map : (f : ℕ → ℕ) → f 0 ≡ 0 → (l : List ℕ) (i : ℕ) → get_or (map f l) i 0 ≡ f (get_or l i 0)

@@ -1,9 +1,9 @@
 -- The block of a place, computed from a table t of reach: rule 1. "Two units share a block when they are the same unit or each
 -- reaches the other."
-use mathlib.Core.List.{List, [], ◌∷◌, ◌++◌, Memᴰ}
+use mathlib.Core.List.{List, [], ◌∷◌, Memᴰ}
 use Rattle.std.specs.Prelude.{ℕ, zero, suc, ◌+◌, ◌^◌, ◌<◌, length, get_or}
 use Rattle.std.specs.Int.Bits.{bit_or, bit_and}
-use Rattle.blocks.specs.Links.{bit}
+use Rattle.sets.specs.Sets.{bit, members}
 use Rattle.blocks.specs.Reach.{joined}
 
 -- The set of the places below k that reach i.
@@ -19,18 +19,9 @@ block_in row column i = bit_or (bit_and row column) (2 ^ i)
 abbrev pub block_of : List ℕ → ℕ → ℕ → ℕ
 block_of t n i = block_in (get_or t i 0) (column_of t n i) i
 
-abbrev pub only : ℕ → ℕ → List ℕ
-only zero k = []
-only (suc b) k = k ∷ []
-
--- The places below k of the set m, rising.
-unfoldable pub places_of : ℕ → ℕ → List ℕ
-places_of zero m = []
-places_of (suc k) m = places_of k m ++ only (bit k m) k
-
 -- The places below n of i's block, rising.
 unfoldable pub members_of : List ℕ → ℕ → ℕ → List ℕ
-members_of t n i = places_of n (block_of t n i)
+members_of t n i = members n (block_of t n i)
 
 -- How many places the blocks of the places listed in o have together.
 abbrev pub counts_of : List ℕ → ℕ → List ℕ → ℕ

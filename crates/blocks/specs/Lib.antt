@@ -3,4 +3,3 @@ pub mod Reach
 pub mod Blocks
 pub mod Order
 pub mod Rule4
-pub mod Answers

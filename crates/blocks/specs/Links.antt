@@ -1,12 +1,8 @@
 -- Links between places, the paths that they make, and blocks: rule 1, over any relation `L` of direct links. A place is a
 -- number; outside has none. A table of links has a row for each place, and bit j of row i is 1 where a link runs from i to j.
-use Rattle.std.specs.Prelude.{◌≡◌, ◌⊎◌, List, ℕ, zero, suc, ◌/◌, ◌%◌, ◌^◌, get_or, set}
+use Rattle.std.specs.Prelude.{◌≡◌, ◌⊎◌, List, ℕ, ◌^◌, get_or, set}
 use Rattle.std.specs.Int.Bits.{bit_or}
-
--- Bit j of the number m, by halves. A number stands for the set of the places j whose bit is 1.
-abbrev pub bit : ℕ → ℕ → ℕ
-bit zero m = m % 2
-bit (suc j) m = bit j (m / 2)
+use Rattle.sets.specs.Sets.{bit}
 
 -- The table t has a link from i to j.
 abbrev pub Link : List ℕ → ℕ → ℕ → Type 0

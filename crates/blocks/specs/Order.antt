@@ -1,9 +1,9 @@
 -- The order of the blocks, computed from a table t of reach: rule 4. "Among blocks not yet placed whose incoming streams from
 -- other blocks all come from placed blocks, take the one holding the lowest unit number. Repeat." A block stands in the order
 -- by its lowest place.
-use Rattle.std.specs.Prelude.{Bool, true, false, ◌&&◌, List, [], ◌∷◌, ℕ, zero, suc, eqb, ltb, get_or}
+use Rattle.std.specs.Prelude.{◌≡◌, ◌<◌, Bool, true, false, ◌&&◌, List, [], ◌∷◌, ℕ, zero, suc, eqb, ltb, get_or, Option, MatchOption}
 use Rattle.std.specs.Int.Bits.{bit_or}
-use Rattle.blocks.specs.Links.{bit}
+use Rattle.sets.specs.Sets.{bit}
 use Rattle.blocks.specs.Blocks.{column_of, block_of}
 
 abbrev pub pick {ℓ} : {A : Type ℓ} → Bool → A → A → A
@@ -20,6 +20,16 @@ free_in row column placed i = eqb (bit i placed) 0 && within column (bit_or row 
 
 abbrev pub free : List ℕ → ℕ → ℕ → ℕ → Bool
 free t n placed i = free_in (get_or t i 0) (column_of t n i) placed i
+
+-- The same, from the sets of the places that reach each place.
+abbrev pub free_at : List ℕ → List ℕ → ℕ → ℕ → Bool
+free_at t columns placed i = free_in (get_or t i 0) (get_or columns i 0) placed i
+
+-- The first place below n that passes a test, or nothing where none does.
+abbrev pub First : (ℕ → Bool) → ℕ → Option ℕ → Type 0
+First test n o =
+    MatchOption o ((j : ℕ) → j < n → test j ≡ false)
+    (λ i. (i < n) × (test i ≡ true) × ((j : ℕ) → j < i → test j ≡ false))
 
 -- The lowest free place below k, or n where there is none.
 unfoldable pub lowest_free : List ℕ → ℕ → ℕ → ℕ → ℕ

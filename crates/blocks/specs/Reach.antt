@@ -1,7 +1,7 @@
 -- The table of reach, computed: rule 1. "One unit reaches another if a path of one or more streams leads from it there."
 use Rattle.std.specs.Prelude.{List, map, ℕ, zero, suc, get_or}
 use Rattle.std.specs.Int.Bits.{bit_or}
-use Rattle.blocks.specs.Links.{bit}
+use Rattle.sets.specs.Sets.{bit}
 
 -- The set m, with those of the set `more` where the first number isn't 0.
 abbrev pub joined : ℕ → ℕ → ℕ → ℕ

@@ -1,27 +1,27 @@
 -- A row that reaches `k` is joined to what `k` reaches, and the others stay. Assumes nothing.
-use Rattle.std.proofs.Common.{◌≡◌, ◌<◌, ◌∙◌, sym, arith, length}
+use Rattle.std.proofs.Common.{◌≡◌, ◌<◌, ◌∙◌, sym, arith, length, refl}
 use Rattle.blocks.proofs.Turns.{turned_joins, turned_stays, turned_all}
 use Rattle.blocks.proofs.round.Goals as goal
-use Rattle.blocks.proofs.round.Goals.{then-has-eq1, else-has-eq1}
+use Rattle.blocks.proofs.round.Goals.{then-has, else-has}
 
-pub loop-i-preserved : goal.loop-i-preserved
-loop-i-preserved c =
+pub loop-row-preserved : goal.loop-row-preserved
+loop-row-preserved c =
     let a = c.args in
-    let l = c.loop-i in
-    let h : l.i < length a.rows = omega arith in
-    let has = c.has.ensures in
+    let l = c.loop-row in
+    let t = a.rows.now in
+    let i = l.row-index in
+    let h : i < length t = omega arith in
+    let has = sym c.has.ensures in
     record {
-      within = omega arith;
-      size = l.invariant.size;
-      turned = elim c.if-has-eq1.branch [
-        | then-has-eq1 w ↦ rw w.next-is (turned_joins a.k a.rows l.next l.i h l.invariant.turned (sym has ∙ w.if-has-eq1.true))
-        | else-has-eq1 w ↦ rw w.next-is (turned_stays a.k a.rows l.next l.i h l.invariant.turned (λ e. w.if-has-eq1.false (has ∙ e)))
+      onward = refl;
+      turned = elim c.if-has.branch [
+        | then-has w ↦ rw w.rows-is (turned_joins a.k t l.rows i h l.invariant.turned _ l.invariant.onward (has ∙ w.if-has.true))
+        | else-has w ↦ rw w.rows-is (turned_stays a.k t l.rows i h l.invariant.turned (has ∙ w.if-has.false))
       ];
     }
 
 pub returns : goal.returns
 returns c =
-    let a = c.args in
-    let l = c.loop-i in
-    let e : l.i ≡ length a.rows = omega arith in
-    turned_all a.k a.rows l.next (rw e at l.invariant.turned)
+    let l = c.loop-row in
+    let e : l.row-index ≡ length c.args.rows.now = omega arith in
+    turned_all c.args.k c.args.rows.now l.rows (rw e at l.invariant.turned)
