@@ -5,16 +5,13 @@ use mathlib.Core.Logic.{◌⊎◌, inl, inr, ⊎_elim}
 use mathlib.Core.List.{List, [], ◌∷◌, ◌++◌, append-nil}
 use Prim.Native.Nat.{ℕ, zero, suc, ◌+◌, ◌*◌, ◌-◌, ◌/◌, ◌%◌, ◌^◌, ◌<◌, ◌≤◌}
 use native.Mathlib.Omega.{arith}
-use native.Mathlib.Nat.{pow-succ', div-one, div-div-eq-div-mul, eq-or-lt_of_le, le_of_suc-le-suc, mul_assoc}
+use native.Mathlib.Nat.{pow-succ', eq-or-lt_of_le, le_of_suc-le-suc, mul_assoc}
 use lib.Pow.{pow_pos}
 use Rattle.tearing.specs.Order.{Pick, here, there, upto, sum}
 use Rattle.tearing.specs.Weight.{into, all}
-use Rattle.tearing.specs.Table.{bit, only, members}
-use Rattle.tearing.proofs.Lists.{pick-length, pick_middle, sum-append, sum-pick, sum_mono}
-
-pub bit_lt : (j m : ℕ) → bit j m < 2
-bit_lt zero m = omega arith
-bit_lt (suc j) m = bit_lt j (m / 2)
+use Rattle.sets.specs.Sets.{bit, only, members}
+use Rattle.sets.proofs.Sets.{bit_lt}
+use Rattle.tearing.proofs.Lists.{Each, each_append, each_map, pick-length, pick_middle, sum-append, sum-pick, sum_mono}
 
 pub bit_le : (d m : ℕ) → bit d m ≡ 1 → 2 ^ d ≤ m
 bit_le zero m h = omega arith
@@ -60,11 +57,6 @@ bit_full (suc n) (suc j) h =
     let e : (2 ^ suc n - 1) / 2 ≡ 2 ^ n - 1 = omega (arith, pow-succ' 2 n, pow_pos n) in
     rw e (bit_full n j (omega arith))
 
--- a digit, as the code reads it
-pub bit_shr : (j m : ℕ) → bit j m ≡ m / 2 ^ j % 2
-bit_shr zero m = ap (λ (x : ℕ). x % 2) (sym (div-one m))
-bit_shr (suc j) m = rw (pow-succ' 2 j, ← div-div-eq-div-mul m 2 (2 ^ j)) (bit_shr j (m / 2))
-
 bit_zero : (j : ℕ) → bit j 0 ≡ 0
 bit_zero zero = refl
 bit_zero (suc j) = bit_zero j
@@ -93,21 +85,37 @@ bit_pow (suc d) = let e : 2 ^ suc d / 2 ≡ 2 ^ d = omega (arith, pow-succ' 2 d)
 
 -- ---- the members of a set
 
+pub members_below : (k m : ℕ) → Each (λ x. x < k) (members k m)
+unfolding members
+members_below zero m = tt
+members_below (suc k) m =
+    each_append (λ x. x < suc k) (members k m) (only (bit k m) k)
+    (each_map (λ x. x < k) (λ x. x < suc k) (members k m) (λ x (l : x < k). omega arith) (members_below k m))
+    (last (bit k m))
+  where
+    last : (b : ℕ) → Each (λ x. x < suc k) (only b k)
+    last zero = tt
+    last (suc b) = (omega arith, tt)
+
 -- sets with the same digits below k have the same members there
 members_same : (k a b : ℕ) → ((j : ℕ) → j < k → bit j a ≡ bit j b) → members k a ≡ members k b
+unfolding members
 members_same zero a b f = refl
 members_same (suc k) a b f = rw (f k (omega arith), members_same k a b (λ j h. f j (omega arith)))
 
 pub members_zero : (k : ℕ) → members k 0 ≡ []
+unfolding members
 members_zero zero = refl
 members_zero (suc k) = rw (bit_zero k, members_zero k)
 
 pub members_full : (n k : ℕ) → k ≤ n → members k (2 ^ n - 1) ≡ upto k
+unfolding members
 members_full n zero h = refl
 members_full n (suc k) h = rw (bit_full n k (omega arith), members_full n k (omega arith))
 
 -- a set below 2 ^ n has no member from n on
 pub members-beyond : (n k m : ℕ) → m < 2 ^ n → n ≤ k → members k m ≡ members n m
+unfolding members
 members-beyond n zero m h l = let e : n ≡ 0 = omega arith in rw e
 members-beyond n (suc k) m h l =
     ⊎_elim
@@ -120,12 +128,14 @@ pick_left T here = here
 pick_left T (there p) = there (pick_left T p)
 
 pick_top : (k m : ℕ) → bit k m ≡ 1 → Pick k (members (suc k) m) (members (suc k) (m - 2 ^ k))
+unfolding members
 pick_top k m e =
     rw (e, bit_self k m e, members_same k (m - 2 ^ k) m (λ j h. bit_other k j m e (λ q. omega arith)))
     (pick_middle (members k m) k [])
 
 -- a member that is taken out leaves the members of the set less its digit
 pub pick-members : (k m d : ℕ) → d < k → bit d m ≡ 1 → Pick d (members k m) (members k (m - 2 ^ d))
+unfolding members
 pick-members zero m d h e = absurd (omega arith)
 pick-members (suc k) m d h e =
     ⊎_elim
@@ -160,10 +170,12 @@ abbrev Picked : ℕ → ℕ → ℕ → List ℕ → Type 0
 Picked k m u R = (u < k) × (bit u m ≡ 1) × (R ≡ members k (m - 2 ^ u))
 
 picked_below : (k m : ℕ) {u : ℕ} {Q R : List ℕ} → Picked k m u Q → R ≡ Q ++ only (bit k m) k → Picked (suc k) m u R
+unfolding members
 picked_below k m {u} h e =
     (omega (arith, h.0), h.1, rw (bit_other u k m h.1 (λ q. omega (arith, h.0)), ← h.2) e)
 
 picked_top : (k m : ℕ) {u : ℕ} {Q R : List ℕ} → (u ≡ k) × (0 < bit k m) × (Q ≡ []) → R ≡ members k m ++ Q → Picked (suc k) m u R
+unfolding members
 picked_top k m {u} {Q} {R} h e =
     let b : bit k m ≡ 1 = omega (arith, bit_lt k m, h.1) in (
       omega (arith, h.0),
@@ -172,6 +184,7 @@ picked_top k m {u} {Q} {R} h e =
     )
 
 pub members-pick : (k m : ℕ) {u : ℕ} {R : List ℕ} → Pick u (members k m) R → (u < k) × (bit u m ≡ 1) × (R ≡ members k (m - 2 ^ u))
+unfolding members
 members-pick zero m p = absurd (omega (arith, pick-length p))
 members-pick (suc k) m {u} p =
     ⊎_elim
@@ -193,6 +206,7 @@ module _ (f : ℕ → ℕ) where
 
   -- digit by digit
   members_add : (k m a b : ℕ) → ((j : ℕ) → bit j m ≡ bit j a + bit j b) → sum f (members k m) ≡ sum f (members k a) + sum f (members k b)
+  unfolding members
   members_add zero m a b h = refl
   members_add (suc k) m a b h =
       rw (
@@ -216,6 +230,7 @@ module _ (f : ℕ → ℕ) where
 
   -- no set has more than all
   pub members_most : (k m : ℕ) → sum f (members k m) ≤ sum f (upto k)
+  unfolding members
   members_most zero m = omega arith
   members_most (suc k) m =
       rw (sum-append f (members k m) (only (bit k m) k), sum-append f (upto k) (k ∷ []))

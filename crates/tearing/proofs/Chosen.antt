@@ -3,14 +3,13 @@
 use mathlib.Core.Path.{◌≡◌, sym, ◌∙◌}
 use mathlib.Core.Logic.{inl, inr, ⊎_elim}
 use mathlib.Core.List.{List}
-use Prim.Native.Nat.{ℕ, ◌-◌, ◌<◌, ◌≤◌}
+use Prim.Native.Nat.{ℕ, ◌<◌, ◌≤◌}
 use native.Mathlib.Omega.{arith}
 use native.Mathlib.Nat.{eq-or-lt_of_le}
-use lib.ListN.{length, get_or, take, replicate, length-append, length-replicate, get_or-append}
-use lib.Seq.{take_at}
+use lib.ListN.{length, get_or}
 use Rattle.tearing.specs.Order.{Perm, upto, torn, Lex, Chosen}
 use Rattle.tearing.specs.Weight.{weight, Best}
-use Rattle.tearing.specs.Best.{best, best_row}
+use Rattle.tearing.specs.Best.{best}
 use Rattle.tearing.proofs.Lists.{perm_length, length-upto, Each, each_perm, each_at, upto_below, Distinct, distinct_perm, rising_upto, rising_distinct}
 use Rattle.tearing.proofs.Torn.{torn-weight, torn_agree}
 use Rattle.tearing.proofs.Computed.{best_is, best-only}
@@ -65,6 +64,9 @@ module _ (W : ℕ → ℕ → ℕ) (n : ℕ) where
   pub best_below : Each (λ x. x < n) (best W n)
   best_below = each_perm (λ x. x < n) best_order (upto_below n)
 
+  pub best_at : (i : ℕ) → i < n → get_or (best W n) i 0 < n
+  best_at i h = each_at (λ x. x < n) (best W n) i (omega (arith, best-length)) best_below
+
   pub best_distinct : Distinct (best W n)
   best_distinct = distinct_perm best_order (rising_distinct (upto n) (rising_upto n))
 
@@ -75,23 +77,6 @@ module _ (W : ℕ → ℕ → ℕ) (n : ℕ) where
   -- and of those that tear as little it is the first
   pub best-first : (p : List ℕ) → Perm (upto n) p → torn W (upto n) p ≡ torn W (upto n) (best W n) → Lex (best W n) p
   best-first = chosen.first
-
--- the row of twelve that holds it
-module _ (W : ℕ → ℕ → ℕ) (n : ℕ) (few : n ≤ 12) where
-  pub row_length : length (best_row W n) ≡ 12
-  unfolding best_row
-  row_length = rw (length-append, best-length W n, length-replicate) (omega arith)
-
-  pub row_order : take n (best_row W n) ≡ best W n
-  unfolding best_row
-  row_order = take_at (best W n) (replicate (12 - n) 0) n (best-length W n)
-
-  pub row_at : (i : ℕ) → i < n → get_or (best_row W n) i 0 ≡ get_or (best W n) i 0
-  unfolding best_row
-  row_at i h = get_or-append (best W n) (replicate (12 - n) 0) 0 i (omega (arith, best-length W n))
-
-  pub row_below : (i : ℕ) → i < n → get_or (best_row W n) i 0 < n
-  row_below i h = rw (row_at i h) (each_at (λ x. x < n) (best W n) i (omega (arith, best-length W n)) (best_below W n))
 
 -- weights that agree on the places below n choose the same order
 pub best_agree : (W X : ℕ → ℕ → ℕ) (n : ℕ) → ((i j : ℕ) → i < n → j < n → W i j ≡ X i j) → best W n ≡ best X n
@@ -104,7 +89,3 @@ best_agree W X n h =
       least = λ p q. omega (arith, c.least p q, t p, t (best W n));
       first = λ p q e. c.first p q (t p ∙ e ∙ sym (t (best W n)));
     })
-
-pub row_agree : (W X : ℕ → ℕ → ℕ) (n : ℕ) → ((i j : ℕ) → i < n → j < n → W i j ≡ X i j) → best_row W n ≡ best_row X n
-unfolding best_row
-row_agree W X n h = rw (best_agree W X n h)

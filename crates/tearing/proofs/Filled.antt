@@ -1,19 +1,18 @@
 -- The table in the working memory: one more entry, and one more place of the order read off it. Assumes nothing.
-use mathlib.Core.Path.{◌≡◌, refl, sym, ap, ◌∙◌}
+use mathlib.Core.Path.{◌≡◌, refl, ap, ◌∙◌}
 use mathlib.Core.Logic.{inl}
 use mathlib.Core.List.{List, [], ◌∷◌, ◌++◌, append-nil, append_assoc}
 use Prim.Native.Nat.{ℕ, zero, suc, ◌+◌, ◌*◌, ◌-◌, ◌^◌, ◌<◌, ◌≤◌}
 use native.Mathlib.Omega.{arith}
-use native.Mathlib.Numerals.{add-one}
 use borrow.Author.Count.{below_more}
-use lib.ListN.{length, take, drop, set, replicate, take-append-drop}
-use lib.Seq.{take-suc-set, drop-cons, drop-set-lt}
+use lib.ListN.{length}
 use Rattle.words.specs.Words.{with_number}
 use Rattle.words.proofs.Numbers.{read_back, read_elsewhere}
 use Rattle.tearing.specs.Order.{upto}
 use Rattle.tearing.specs.Weight.{into, Best, Least}
-use Rattle.tearing.specs.Best.{best_row}
-use Rattle.tearing.specs.Table.{bit, members, entry, Filled, via, Sums, Room, Lowest, First}
+use Rattle.sets.specs.Sets.{bit, members}
+use Rattle.tearing.specs.Best.{best}
+use Rattle.tearing.specs.Table.{entry, Filled, via, Sums, Room, Lowest, First}
 use Rattle.tearing.proofs.Lists.{pick-length, length-upto}
 use Rattle.tearing.proofs.Bits.{members_zero, members_full, pick-members}
 use Rattle.tearing.proofs.Weight.{best_nil, least_nil}
@@ -49,10 +48,9 @@ module _ (W : ℕ → ℕ → ℕ) (n : ℕ) (low high l : List ℕ) (s : Sums W
   rest v g b = f (m - 2 ^ v) (less_bit m v b)
 
   -- a step of the table has room
-  pub room : n ≤ 12 → 0 < m → 4 * 2 ^ n ≤ length l → Room (via low high l m) n m l
-  room p q r =
+  pub room : 0 < m → 4 * 2 ^ n ≤ length l → Room (via low high l m) n m l
+  room q r =
       record {
-        places = p;
         some = q;
         set = h;
         memory = r;
@@ -81,37 +79,25 @@ module _ (W : ℕ → ℕ → ℕ) (n : ℕ) (low high l : List ℕ) (s : Sums W
       (λ v k d. omega (arith, via_is u g, via_is v (omega arith), c.first v k d))
       o b
 
--- what is still to be shown of the places after the first i
-abbrev pub Goes : (ℕ → ℕ → ℕ) → ℕ → ℕ → List ℕ → ℕ → Type 0
-Goes W n m out i = (o : List ℕ) → Best W (members n m) o → Best W (upto n) (take i out ++ o)
+-- what is still to be shown of the places after those that are read
+abbrev pub Goes : (ℕ → ℕ → ℕ) → ℕ → ℕ → List ℕ → Type 0
+Goes W n m read = (o : List ℕ) → Best W (members n m) o → Best W (upto n) (read ++ o)
 
 module _ (W : ℕ → ℕ → ℕ) (n : ℕ) where
-  pub goes_start : (out : List ℕ) → Goes W n (2 ^ n - 1) out 0
-  goes_start out o b = rw (members_full n n (omega arith)) at b
+  pub goes_start : Goes W n (2 ^ n - 1) []
+  goes_start o b = rw (members_full n n (omega arith)) at b
 
-  pub goes_more : (low high l : List ℕ) (m : ℕ) (out : List ℕ) (i u : ℕ) → i < length out → m < 2 ^ n → Sums W n low high → Filled W n l (2 ^ n)
-      → First (via low high l m) n m u → Goes W n m out i → Goes W n (m - 2 ^ u) (set out i u) (i + 1)
-  goes_more low high l m out i u h q s f c g o b =
+  pub goes_more : (low high l : List ℕ) (m : ℕ) (read : List ℕ) (u : ℕ) → m < 2 ^ n → Sums W n low high → Filled W n l (2 ^ n)
+      → First (via low high l m) n m u → Goes W n m read → Goes W n (m - 2 ^ u) (read ++ (u ∷ []))
+  goes_more low high l m read u q s f c g o b =
       let r = g (u ∷ o) (first-best W n low high l s m q (λ j k. f j (omega arith)) o c b) in
-      rw (add-one, take-suc-set, append_assoc) r
+      rw append_assoc r
 
-  pub goes_end : (m : ℕ) (out : List ℕ) → length (members n m) ≡ 0 → Goes W n m out n → drop n out ≡ replicate (12 - n) 0
-      → out ≡ best_row W n
-  unfolding best_row
-  goes_end m out e g d =
-      let b = rw (append-nil (take n out)) at (g [] (rw (nil_of (members n m) e) (best_nil W))) in
-      sym (take-append-drop n out) ∙ rw (best-only W n b, d)
+  pub goes_end : (m : ℕ) (read : List ℕ) → length (members n m) ≡ 0 → Goes W n m read → read ≡ best W n
+  goes_end m read e g = best-only W n (rw (append-nil read) at (g [] (rw (nil_of (members n m) e) (best_nil W))))
 
 pub fewer : (n m u : ℕ) → u < n → bit u m ≡ 1 → length (members n m) ≡ length (members n (m - 2 ^ u)) + 1
 fewer n m u h b = omega (arith, pick-length (pick-members n m u h b))
 
 pub members-all : (n : ℕ) → length (members n (2 ^ n - 1)) ≡ n
 members-all n = rw (members_full n n (omega arith)) (length-upto n)
-
--- the zeros after what is written
-pub zeros_more : (out : List ℕ) (i u : ℕ) → i < length out → i < 12 → drop i out ≡ replicate (12 - i) 0 → drop (i + 1) (set out i u) ≡ replicate (12 - (i + 1)) 0
-zeros_more out i u h k e =
-    let n : 12 - i ≡ suc (12 - (i + 1)) = omega arith in
-    let a = sym (drop-cons out i 0 h) ∙ e ∙ ap (λ (c : ℕ). replicate c 0) n in
-    let t : drop (suc i) out ≡ replicate (12 - (i + 1)) 0 = cc in
-    drop-set-lt (i + 1) out i u (omega arith) ∙ ap (λ (c : ℕ). drop c out) (add-one i) ∙ t

@@ -14,7 +14,8 @@ use lib.Seq.{get_or-set_same, get_or-set_other}
 use Rattle.tearing.specs.Order.{upto}
 use Rattle.tearing.specs.Weight.{into}
 use Rattle.tearing.specs.Row.{weights, total}
-use Rattle.tearing.specs.Table.{members, Summed, Doubled, flow, Sums}
+use Rattle.sets.specs.Sets.{members}
+use Rattle.tearing.specs.Table.{Summed, Doubled, flow, Sums}
 use Rattle.tearing.proofs.Lists.{sum-upto}
 use Rattle.tearing.proofs.Bits.{members_zero, members-beyond, members_join, members_pow, members_most}
 use Rattle.tearing.proofs.Total.{all-total}

@@ -9,5 +9,6 @@ pub mod Computed
 pub mod Bits
 pub mod Steps
 pub mod Halves
+pub mod Between
 pub mod Lowest
 pub mod Filled

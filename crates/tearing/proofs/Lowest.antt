@@ -2,11 +2,12 @@
 -- skipped, kept out or taken. Assumes nothing.
 use mathlib.Core.Path.{◌≡◌, refl}
 use mathlib.Core.Logic.{◌⊎◌, inl, inr, ⊎_elim}
-use Prim.Native.Nat.{ℕ, ◌+◌, ◌-◌, ◌^◌, ◌<◌, ◌≤◌}
+use Prim.Native.Nat.{ℕ, ◌+◌, ◌^◌, ◌<◌, ◌≤◌}
 use native.Mathlib.Omega.{arith}
 use borrow.Author.Count.{below_more}
 use mathlib.Core.List.{List}
-use Rattle.tearing.specs.Table.{bit, Room, Lowest, First}
+use Rattle.sets.specs.Sets.{bit}
+use Rattle.tearing.specs.Table.{Room, Lowest, First}
 use Rattle.tearing.proofs.Bits.{bit_some}
 
 -- x is the lowest of f over the members of m below j, and u the first of them; or x is still as it was at the start
@@ -34,28 +35,31 @@ module _ (f : ℕ → ℕ) (m start : ℕ) where
           at = inr (omega arith, b, refl, λ v l q. omega (arith, h.low v l q));
         }
 
-module _ (f : ℕ → ℕ) (n m : ℕ) (l : List ℕ) (r : Room f n m l) (x u : ℕ) where
-  pub min_lowest : Min f m (2 ^ 32 - 1) n x u → Lowest f n m x
-  min_lowest h = record { low = h.low; at = ⊎_elim start (λ s. (u, s.0, s.1, s.2)) h.at }
+module _ (f : ℕ → ℕ) (n m : ℕ) (l : List ℕ) (r : Room f n m l) (x u : ℕ) (h : Min f m (2 ^ 32) n x u) where
+  -- a set has a member, and what that is worth is below the start
+  found : (u < n) × (bit u m ≡ 1) × (x ≡ f u) × ((v : ℕ) → v < u → bit v m ≡ 1 → x < f v)
+  found = ⊎_elim start (λ s. s) h.at
     where
-      start : x ≡ 2 ^ 32 - 1 → (v : ℕ) × (v < n) × (bit v m ≡ 1) × (x ≡ f v)
-      start e =
-          let s = bit_some n m r.set r.some in
-          (s.0, s.1, s.2, omega (arith, e, h.low s.0 s.1 s.2, r.fits s.0 s.1 s.2))
-
-  pub min_first : Min f m (2 ^ 32) n x u → First f n m u
-  min_first h = ⊎_elim start taken h.at
-    where
-      start : x ≡ 2 ^ 32 → First f n m u
+      start : x ≡ 2 ^ 32 → (u < n) × (bit u m ≡ 1) × (x ≡ f u) × ((v : ℕ) → v < u → bit v m ≡ 1 → x < f v)
       start e =
           let s = bit_some n m r.set r.some in
           absurd (omega (arith, e, h.low s.0 s.1 s.2, r.fits s.0 s.1 s.2))
 
-      taken : (u < n) × (bit u m ≡ 1) × (x ≡ f u) × ((v : ℕ) → v < u → bit v m ≡ 1 → x < f v) → First f n m u
-      taken s =
-          record {
-            below = s.0;
-            member = s.1;
-            least = λ v g b. omega (arith, s.2, h.low v g b);
-            first = λ v g b. omega (arith, s.2, s.3 v g b);
-          }
+  pub min_first : First f n m u
+  min_first =
+      record {
+        below = found.0;
+        member = found.1;
+        least = λ v g b. omega (arith, found.2, h.low v g b);
+        first = λ v g b. omega (arith, found.2, found.3 v g b);
+      }
+
+  pub min_is : x ≡ f u
+  min_is = found.2
+
+  pub min_fits : x < 2 ^ 32
+  min_fits = omega (arith, found.2, r.fits u found.0 found.1)
+
+-- what the first is worth is the lowest
+pub first_lowest : {f : ℕ → ℕ} {n m u : ℕ} → First f n m u → Lowest f n m (f u)
+first_lowest {u = u} c = record { low = c.least; at = (u, c.below, c.member, refl) }

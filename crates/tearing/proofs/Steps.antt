@@ -11,7 +11,7 @@ use lib.Pow.{pow_pos}
 use lib.ListN.{length}
 use Rattle.tearing.specs.Order.{Pick, Perm, none, next, upto, less, same}
 use Rattle.tearing.specs.Weight.{into, weight, Before, Best, Least, all}
-use Rattle.tearing.specs.Table.{bit, members}
+use Rattle.sets.specs.Sets.{bit, members}
 use Rattle.tearing.proofs.Lists.{pick-length}
 use Rattle.tearing.proofs.Bits.{bit_le, pick-members, members-pick, all_most}
 use Rattle.tearing.proofs.Weight.{weight_next, least_is, weight-all, all_perm}

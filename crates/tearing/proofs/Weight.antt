@@ -10,7 +10,7 @@ use Rattle.tearing.specs.Weight.{into, weight, Before, Best, Least, all}
 use Rattle.tearing.proofs.Lists.{pick-length, sum-pick, sum_perm, sum_same, sum_mono}
 
 -- two comparisons of the same two orders, each way round
-lex_at : {o p o' p' : List ℕ} → Lex o p → Lex p' o' → o ≡ o' → p ≡ p' → o ≡ p
+pub lex_at : {o p o' p' : List ℕ} → Lex o p → Lex p' o' → o ≡ o' → p ≡ p' → o ≡ p
 lex_at end k e f = refl
 lex_at (less {u = u} {v = v} h) end e f = absurd (cc)
 lex_at (less {u = u} {v = v} h) (less {u = u'} {v = v'} k) e f =
@@ -31,7 +31,7 @@ lex_at (same {u = u} {o = o} {p = p} q) (same {o = p'} {p = o'} r) e f =
     let b : p ≡ p' = cc in
     ap (λ (l : List ℕ). u ∷ l) (lex_at q r a b)
 
-lex_both : {o p : List ℕ} → Lex o p → Lex p o → o ≡ p
+pub lex_both : {o p : List ℕ} → Lex o p → Lex p o → o ≡ p
 lex_both q r = lex_at q r refl refl
 
 module _ (W : ℕ → ℕ → ℕ) where

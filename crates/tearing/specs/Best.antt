@@ -1,6 +1,6 @@
 -- The block's order, computed: "one whose torn streams have the least total weight over all orders of that block. Where several have, it is the
 -- first of them". Each place is tried as the first, followed by the best order of the others, and the first of the lightest is kept.
-use Rattle.std.specs.Prelude.{Bool, true, false, List, [], ◌∷◌, ◌++◌, ℕ, zero, suc, ◌+◌, ◌-◌, leb, replicate}
+use Rattle.std.specs.Prelude.{Bool, true, false, List, [], ◌∷◌, ◌++◌, ℕ, zero, suc, ◌+◌, leb}
 use Rattle.tearing.specs.Order.{upto}
 use Rattle.tearing.specs.Weight.{into}
 
@@ -35,7 +35,3 @@ best_of W (suc k) (u ∷ S) = scan W (u ∷ S) (best_of W k) [] u S
 -- the best order of the places below n
 unfoldable pub best : (ℕ → ℕ → ℕ) → ℕ → List ℕ
 best W n = (best_of W n (upto n)).order
-
--- the same in a row of twelve, with zeros after it
-unfoldable pub best_row : (ℕ → ℕ → ℕ) → ℕ → List ℕ
-best_row W n = best W n ++ replicate (12 - n) 0

@@ -1,22 +1,10 @@
--- Sets of places as numbers, and the tables over them: the digit j of a set says whether place j is in it. The table of least weights lies in
--- the working memory, four bytes a set; the two tables of sums, over the sets of the low six places and of the high six, twelve numbers a set.
-use Rattle.std.specs.Prelude.{◌≡◌, List, [], ◌∷◌, ◌++◌, ℕ, zero, suc, ◌+◌, ◌*◌, ◌-◌, ◌/◌, ◌%◌, ◌^◌, ◌<◌, ◌≤◌, length, get_or}
+-- The tables over sets of places. The table of least weights lies in the working memory, four bytes a set; the two tables of sums, over the
+-- sets of the low six places and of the high six, twelve numbers a set.
+use Rattle.std.specs.Prelude.{◌≡◌, List, ℕ, ◌+◌, ◌*◌, ◌-◌, ◌/◌, ◌%◌, ◌^◌, ◌<◌, ◌≤◌, length, get_or}
+use Rattle.sets.specs.Sets.{bit, members}
 use Rattle.tearing.specs.Order.{upto}
 use Rattle.tearing.specs.Weight.{into, all, Least}
 use Rattle.words.specs.Words.{number_at}
-
-abbrev pub bit : ℕ → ℕ → ℕ
-bit zero m = m % 2
-bit (suc j) m = bit j (m / 2)
-
-abbrev pub only : ℕ → ℕ → List ℕ
-only zero k = []
-only (suc b) k = k ∷ []
-
--- the members below k of the set m
-abbrev pub members : ℕ → ℕ → List ℕ
-members zero m = []
-members (suc k) m = members k m ++ only (bit k m) k
 
 -- the table's entry of the set m
 abbrev pub entry : List ℕ → ℕ → ℕ
@@ -40,6 +28,10 @@ pub record Doubled (w : List ℕ) (place size count : ℕ) (old new : List ℕ) 
 abbrev pub flow : List ℕ → List ℕ → ℕ → ℕ → ℕ
 flow low high m u = get_or low (m % 64 * 12 + u) 0 + get_or high (m / 64 * 12 + u) 0
 
+-- what the streams from place i to place j weigh, by the two tables
+abbrev pub between : List ℕ → List ℕ → ℕ → ℕ → ℕ
+between low high i j = flow low high (2 ^ i) j
+
 -- the tables hold the sums of the weights W, which fit a number of 32 bits together
 pub record Sums (W : ℕ → ℕ → ℕ) (n : ℕ) (low high : List ℕ) : Type 0 where
   pub flows : (m u : ℕ) → m < 2 ^ n → u < n → flow low high m u ≡ into W u (members n m)
@@ -51,7 +43,6 @@ via low high l m u = flow low high m u + entry l (m - 2 ^ u)
 
 -- a table step at the set m stays within the working memory and within 32 bits
 pub record Room (f : ℕ → ℕ) (n m : ℕ) (l : List ℕ) : Type 0 where
-  pub places : n ≤ 12
   pub some : 0 < m
   pub set : m < 2 ^ n
   pub memory : 4 * 2 ^ n ≤ length l

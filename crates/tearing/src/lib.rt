@@ -3,34 +3,15 @@
 // an order of that set tears; it is filled in the sets' order, and the best order is read off it from the whole set down.
 #![tactic(auto)]
 
-ghost use Rattle.std.specs.Prelude.{◌≡◌, ℕ, ◌+◌, ◌*◌, ◌-◌, ◌^◌, ◌%◌, ◌<◌, ◌≤◌, min, length, get_or, drop};
-ghost use Rattle.tearing.specs.Row.{weights as weightsOf, total};
-ghost use Rattle.tearing.specs.Best.{best_row};
-ghost use Rattle.tearing.specs.Table.{bit, Summed, Doubled, Sums, Filled, via, Room, Lowest, First};
+ghost use Rattle.std.specs.Prelude.{◌≡◌, ℕ, ◌+◌, ◌*◌, ◌-◌, ◌^◌, ◌%◌, ◌<◌, ◌≤◌, length, get_or, drop};
+ghost use Rattle.sets.specs.Sets.{bit};
+ghost use Rattle.tearing.specs.Row.{weights as weights_of, total};
+ghost use Rattle.tearing.specs.Best.{best};
+ghost use Rattle.tearing.specs.Table.{between, Summed, Doubled, Sums, Filled, via, Room, First};
 ghost use Rattle.tearing.specs.Answer.{Ordered};
 
-// Whether place j is in the set m: 1 or 0.
-fn has(m: usize, j: usize) -> usize
-    requires { j < 12 }
-    ensures { result ≡ bit j m }
-{
-    (m >> j) % 2
-}
-
-// The set of place j alone; and, for a number of places, how many sets they have.
-fn one(j: usize) -> usize
-    requires { j ≤ 12 }
-    ensures { result ≡ 2 ^ j }
-{
-    1 << j
-}
-
-// How many of n places are among the low six.
-fn lower(n: usize) -> usize
-    ensures { result ≡ min n 6 }
-{
-    if n < 6 { n } else { 6 }
-}
+use rows::Row;
+use words::Word;
 
 // Adds to the first numbers of a table of sums as many again: those of the same sets with one place more.
 fn double(weights: &[u32; 144], place: usize, size: usize, sums: &mut [u32; 768])
@@ -38,125 +19,125 @@ fn double(weights: &[u32; 144], place: usize, size: usize, sums: &mut [u32; 768]
     requires fits { (k : ℕ) → k < size → get_or sums.old k 0 + get_or weights.now (place * 12 + k % 12) 0 < 2 ^ 32 }
     ensures { Doubled weights.now place size size sums.old sums.new }
 {
-    let mut k: usize = 0;
-    while k < size {
+    for k in 0..size {
         sums[size + k] = sums[k] + weights[place * 12 + k % 12];
-        k += 1;
     }
 }
 
 // What the streams into each place weigh together from each set of the places from `from` up to `to`. The table has the empty set's, which
-// are zero, already.
+// are zero, already. It is written in place: handed back by value it is copied three times, which was tried and is slower.
 fn half(weights: &[u32; 144], from: usize, to: usize, sums: &mut [u32; 768])
     requires places { (from ≤ 6) × (to ≤ from + 6) × (total weights.now < 2 ^ 32) }
-    requires empty_set { (length sums.old ≡ 768) × Summed (weightsOf weights.now) from sums.old 12 }
-    ensures { Summed (weightsOf weights.now) from sums.new (12 * 2 ^ (to - from)) }
+    requires empty_set { (length sums.old ≡ 768) × Summed (weights_of weights.now) from sums.old 12 }
+    ensures { Summed (weights_of weights.now) from sums.new (12 * 2 ^ (to - from)) }
 {
     let mut size: usize = 12;
-    let mut place = from;
-    while place < to {
+    for place in from..to {
         double(weights, place, size, sums);
         size *= 2;
-        place += 1;
     }
 }
 
-// What an order of the set m tears at least that begins with u: the streams into u from the set, and the least of the rest.
-fn begun(low: &[u32; 768], high: &[u32; 768], work: &[u8], m: usize, u: usize) -> u32
-    requires { (u < 12) × (m < 4096) × (bit u m ≡ 1) × (4 * m + 4 ≤ length work.now) × (via low.now high.now work.now m u < 2 ^ 32) }
-    ensures { result ≡ via low.now high.now work.now m u }
-{
-    let rest = m - one(u);
-    low[m % 64 * 12 + u] + high[m / 64 * 12 + u] + words::u32_at(work, 4 * rest)
+// What the streams between the places of a block weigh: for each set of the places and each place, those from the set into the place together.
+#[derive(Drop)]
+struct Flows {
+    // of the sets of the low six places, and of the high six
+    low: [u32; 768],
+    high: [u32; 768],
+    places: usize,
+    ghost few: { places ≤ 12 },
+    ghost sums: { Sums (between low high) places low high },
 }
 
-// The least that an order of the set m tears.
-fn least(low: &[u32; 768], high: &[u32; 768], n: usize, work: &[u8], m: usize) -> u32
-    requires { Room (via low.now high.now work.now m) n m work.now }
-    ensures { Lowest (via low.now high.now work.now m) n m result }
-{
-    let mut lowest: u32 = 4294967295;
-    let mut u: usize = 0;
-    while u < n {
-        if has(m, u) == 1 {
-            let torn = begun(low, high, work, m, u);
-            if torn < lowest {
-                lowest = torn;
+impl Flows {
+    // What the streams between the places below n weigh.
+    fn of(weights: &[u32; 144], n: usize) -> Flows
+        requires { (n ≤ 12) × (total weights.now < 2 ^ 32) }
+        ensures places { result.places ≡ n }
+        ensures sums { Sums (weights_of weights.now) n result.low result.high }
+    {
+        let mut flows = Flows {
+            low: [0; 768],
+            high: [0; 768],
+            places: n,
+        };
+        half(weights, 0, n.min(6), &mut flows.low);
+        half(weights, 6, n, &mut flows.high);
+        flows
+    }
+
+    // What an order of a set tears at least that begins with u: the streams into u from the set, and the least of the rest.
+    fn begun(&self, work: &[u8], set: u64, u: usize) -> u32
+        requires within { (u < 12) × (set < 4096) × (bit u set ≡ 1) × (4 * set + 4 ≤ length work.now) }
+        requires fits { via self.now.low self.now.high work.now set u < 2 ^ 32 }
+        ensures { result ≡ via self.now.low self.now.high work.now set u }
+    {
+        let whole = set as usize;
+        let rest = (set - sets::one(u)) as usize;
+        self.low[whole % 64 * 12 + u] + self.high[whole / 64 * 12 + u] + u32::at(work, 4 * rest)
+    }
+
+    // The first place of a set with which an order of the set begins that tears least, and what that order tears.
+    fn lightest(&self, work: &[u8], set: u64) -> (usize, u32)
+        requires { Room (via self.now.low self.now.high work.now set) self.now.places set work.now }
+        ensures first { First (via self.now.low self.now.high work.now set) self.now.places set result.0 }
+        ensures torn { result.1 ≡ via self.now.low self.now.high work.now set result.0 }
+    {
+        // more than any order tears
+        let mut lightest: u64 = 4294967296;
+        let mut begin: usize = 0;
+        for u in 0..self.places {
+            if sets::has(set, u) {
+                let torn = u64::from(self.begun(work, set, u));
+                if torn < lightest {
+                    lightest = torn;
+                    begin = u;
+                }
             }
         }
-        u += 1;
+        (begin, lightest as u32)
     }
-    lowest
-}
 
-// Fills the table, in the sets' order, for whatever weights W the two tables hold the sums of. What lies beyond its four bytes a set stays.
-fn fill(low: &[u32; 768], high: &[u32; 768], n: usize, work: &mut [u8])
-    requires room { (n ≤ 12) × (4 * 2 ^ n ≤ length work.old) }
-    requires sums { (W : ℕ → ℕ → ℕ) × Sums W n low.now high.now }
-    ensures filled { (W : ℕ → ℕ → ℕ) → Sums W n low.now high.now → Filled W n work.new (2 ^ n) }
-    ensures beyond { drop (4 * 2 ^ n) work.new ≡ drop (4 * 2 ^ n) work.old }
-{
-    words::put_u32(work, 0, 0);
-    let full = one(n) - 1;
-    let mut m: usize = 1;
-    while m <= full {
-        let torn = least(low, high, n, work, m);
-        words::put_u32(work, 4 * m, torn);
-        m += 1;
-    }
-}
-
-// The first place of the set m with which an order begins that tears the least.
-fn first(low: &[u32; 768], high: &[u32; 768], n: usize, work: &[u8], m: usize) -> usize
-    requires { Room (via low.now high.now work.now m) n m work.now }
-    ensures { First (via low.now high.now work.now m) n m result }
-{
-    let mut lightest: u64 = 4294967296;
-    let mut begin: usize = 0;
-    let mut u: usize = 0;
-    while u < n {
-        if has(m, u) == 1 {
-            let torn = begun(low, high, work, m, u) as u64;
-            if torn < lightest {
-                lightest = torn;
-                begin = u;
-            }
+    // Fills the table, in the sets' order. What lies beyond its four bytes a set stays.
+    fn fill(&self, work: &mut [u8])
+        requires { 4 * 2 ^ self.now.places ≤ length work.old }
+        ensures filled { Filled (between self.now.low self.now.high) self.now.places work.new (2 ^ self.now.places) }
+        ensures beyond { drop (4 * 2 ^ self.now.places) work.new ≡ drop (4 * 2 ^ self.now.places) work.old }
+    {
+        0u32.put(work, 0);
+        let end = sets::one(self.places);
+        for set in 1..end {
+            let (_, torn) = self.lightest(work, set);
+            torn.put(work, 4 * set as usize);
         }
-        u += 1;
     }
-    begin
+
+    // Reads the best order off the table once it is filled.
+    fn read_off(&self, work: &[u8]) -> Row<u8, 12>
+        requires room { 4 * 2 ^ self.now.places ≤ length work.now }
+        requires filled { Filled (between self.now.low self.now.high) self.now.places work.now (2 ^ self.now.places) }
+        ensures { result ≡ best (between self.now.low self.now.high) self.now.places }
+    {
+        let mut order = Row::new();
+        let mut left = sets::one(self.places) - 1;
+        for _ in 0..self.places {
+            let (u, _) = self.lightest(work, left);
+            order.push(u as u8);
+            left -= sets::one(u);
+        }
+        order
+    }
 }
 
-// Reads the best order off the table, filled for whatever weights W the two tables hold the sums of.
-fn read_off(low: &[u32; 768], high: &[u32; 768], n: usize, work: &[u8]) -> [u8; 12]
-    requires room { (n ≤ 12) × (4 * 2 ^ n ≤ length work.now) }
-    requires tables { (W : ℕ → ℕ → ℕ) × Sums W n low.now high.now × Filled W n work.now (2 ^ n) }
-    ensures { (W : ℕ → ℕ → ℕ) → Sums W n low.now high.now → Filled W n work.now (2 ^ n) → result ≡ best_row W n }
-{
-    let mut row: [u8; 12] = [0; 12];
-    let mut m = one(n) - 1;
-    let mut i: usize = 0;
-    while i < n {
-        let u = first(low, high, n, work, m);
-        row[i] = u as u8;
-        m -= one(u);
-        i += 1;
-    }
-    row
-}
-
-// The order of the places below n whose torn streams weigh least together, and of those the first, with zeros after it. The table takes the
-// front of the working memory, four bytes for each set of the places, and leaves it zero; the rest stay.
-pub fn order(weights: &[u32; 144], n: usize, work: &mut [u8]) -> [u8; 12]
+// The order of the places below n whose torn streams weigh least together, and of those the first. The table takes the front of the working
+// memory, four bytes for each set of the places, and leaves it zero; the rest stay.
+pub fn order(weights: &[u32; 144], n: usize, work: &mut [u8]) -> Row<u8, 12>
     requires { (n ≤ 12) × (total weights.now < 2 ^ 32) × (65536 ≤ length work.old) }
     ensures { Ordered weights.now n work.old work.new result }
 {
-    let mut low: [u32; 768] = [0; 768];
-    half(weights, 0, lower(n), &mut low);
-    let mut high: [u32; 768] = [0; 768];
-    half(weights, 6, n, &mut high);
-    fill(&low, &high, n, work);
-    let row = read_off(&low, &high, n, work);
-    words::clear_front(work, 4 * one(n));
-    row
+    let flows = Flows::of(weights, n);
+    flows.fill(work);
+    let order = flows.read_off(work);
+    words::clear_front(work, 4 * sets::one(n) as usize);
+    order
 }

@@ -1,16 +1,12 @@
 -- The loop stands at a place: the sums of the sets of the places before it are there.
 use Rattle.std.proofs.Common.{◌≡◌, ◌*◌, ◌-◌, ◌^◌, ◌≤◌, length}
-use Rattle.tearing.specs.Row.{weights as weightsOf}
+use Rattle.tearing.specs.Row.{weights as weights_of}
 use Rattle.tearing.specs.Table.{Summed}
 use Rattle.tearing.proofs.half.Given as goal
 
 abbrev pub invariant-loop-place : goal.invariant-loop-place
 invariant-loop-place l =
-    (l.from ≤ l.place)
-    × (l.place - l.from ≤ l.to - l.from)
+    (l.place - l.from ≤ l.to - l.from)
     × (length l.sums ≡ 768)
     × (l.size ≡ 12 * 2 ^ (l.place - l.from))
-    × Summed (weightsOf l.weights) l.from l.sums l.size
-
-abbrev pub decreases-loop-place : goal.decreases-loop-place
-decreases-loop-place l = l.to - l.place
+    × Summed (weights_of l.weights) l.from l.sums l.size
