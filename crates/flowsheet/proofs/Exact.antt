@@ -14,8 +14,8 @@ use lib.ListN.{length, get_or}
 use Rattle.words.specs.Words.{number_at}
 use Rattle.flowsheet.specs.Exactly.{SpareZero, LaidOut, GoodHeader, HeaderRefusal, short, edition, spare, counts, layout, Numbered, Known, Sound, Fault, end, outside, weight, stream_in, stream_number_in, GoodStream, StreamRefusal, number, fault, Refusal, header, unit, stream, Accepted}
 use Rattle.flowsheet.specs.Image.{before, edition_of, spare_of, unit_count, stream_count, laid_out, header_number, unit_at, unit_number_at, units_number, stream_number, stream_number_at, unit_list, answer_of}
-use Rattle.flowsheet.specs.Sheet.{place_of, found, number_fault, known_end, weight_fault, stream_fault}
-use Rattle.flowsheet.specs.declared.Place.TheVariants.{At, Nowhere}
+use Rattle.flowsheet.specs.Sheet.{place_of, number_fault, known_end, weight_fault, stream_fault}
+use Rattle.std.specs.Prelude.{Some, None, is_some}
 use Rattle.flowsheet.specs.declared.Stream.{Stream}
 use Rattle.flowsheet.proofs.First.{first_none, first_given, first-all, first_at, search_first}
 use Rattle.flowsheet.proofs.Places.{place_found, place_nowhere, place_cases}
@@ -176,7 +176,7 @@ module _ (us : List ℕ) where
   known_is e (inl z) = rw (eq-eqb e 0 z)
   known_is e (inr k) = ⊎_elim (λ z. rw (eq-eqb e 0 z)) (λ f. rw (ne_eqb e 0 f) (⊎_elim here (λ n. absurd (place_nowhere us e n k.0 k.1 k.2)) (place_cases us e))) (dec_eq e 0)
     where
-      here : ((i : ℕ) × (place_of us e ≡ At i)) → found (place_of us e) ≡ true
+      here : ((i : ℕ) × (place_of us e ≡ Some i)) → is_some (place_of us e) ≡ true
       here p = rw p.1
 
   known_not : (e : ℕ) → (Known us e → ⊥) → known_end us e ≡ false
@@ -185,7 +185,7 @@ module _ (us : List ℕ) where
       rw (ne_eqb e 0 (λ z. f (inl z)))
       (⊎_elim
       (λ p. absurd (f (inr (p.0, (place_found us e p.0 p.1).0, (place_found us e p.0 p.1).1))))
-      (λ (n : place_of us e ≡ Nowhere). rw n)
+      (λ (n : place_of us e ≡ None). rw n)
       (place_cases us e))
 
   dec_known : (e : ℕ) → Known us e ⊎ (Known us e → ⊥)

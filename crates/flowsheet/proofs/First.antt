@@ -15,6 +15,14 @@ pub first_given : (a b : ℕ) → (a ≡ 0 → ⊥) → first a b ≡ a
 first_given zero b f = absurd (f refl)
 first_given (suc a) b f = refl
 
+pub first_or_none : (a : ℕ) → first a 0 ≡ a
+first_or_none zero = refl
+first_or_none (suc a) = refl
+
+pub first_from_same : (f g : ℕ → ℕ) (i n : ℕ) → ((j : ℕ) → f j ≡ g j) → first_from f i n ≡ first_from g i n
+first_from_same f g i zero h = refl
+first_from_same f g i (suc n) h = rw (h i, first_from_same f g (suc i) n h)
+
 pub before_more : (f : ℕ → ℕ) (i : ℕ) → before f (i + 1) ≡ f i
 before_more f i = rw (add-one i)
 

@@ -5,20 +5,19 @@ use mathlib.Core.Path.{◌≡◌, refl, sym, ap, ◌∙◌}
 use Prim.Native.Nat.{ℕ, zero, suc, ◌<◌}
 use native.Mathlib.Nat.{eq-or-lt_of_le, le_of_suc-le-suc}
 use native.Mathlib.Omega.{arith}
-use lib.ListN.{length, get_or}
-use Rattle.words.specs.Rows.{table}
-use Rattle.words.proofs.Rows.{length-table, get_or-table, length-padded}
+use lib.ListN.{get_or}
+use Rattle.rows.specs.Rows.{table}
+use Rattle.rows.proofs.Rows.{length-table, get_or-table}
 use Rattle.flowsheet.specs.Exactly.{Numbered, Accepted, stream_in, stream_number_in}
 use Rattle.flowsheet.specs.Good.{Good, GoodSheet}
-use Rattle.flowsheet.specs.Image.{unit_count, stream_count, unit_at, unit_list, stream_list, answer_of, reading_of}
-use Rattle.flowsheet.specs.Sheet.{no_stream, units_of, streams_of, sheet_of, held_units, held_streams}
+use Rattle.flowsheet.specs.Image.{unit_count, stream_count, unit_at, unit_list, stream_list, answer_of, Reading, refused_with, reading_of}
+use Rattle.flowsheet.specs.Answers.{number_of, reading}
+use Rattle.flowsheet.specs.Sheet.{no_stream, sheet_of}
 use Rattle.flowsheet.specs.declared.Flowsheet.{Flowsheet}
-use Rattle.flowsheet.specs.declared.Reading.{Reading}
+use Rattle.flowsheet.specs.declared.Refusal.{Refusal}
 use Rattle.flowsheet.specs.declared.Stream.{Stream}
-use Rattle.flowsheet.specs.declared.Streams.{Streams}
-use Rattle.flowsheet.specs.declared.Units.{Units}
+use Rattle.std.specs.Prelude.{Ok, Err}
 use Rattle.flowsheet.proofs.Exact.{is_accepted}
-use Rattle.flowsheet.proofs.Held.{units_count, streams_count, held_units_lem, held_streams_lem}
 use Rattle.flowsheet.proofs.Records.{reading_number, reading_accepted}
 
 -- numbers that are in range and rising, given at each place below n by a function that agrees
@@ -62,32 +61,7 @@ accepted_good l a =
 -- a flowsheet of good units and streams is good
 pub sheet_good : (us : List ℕ) (ss : List Stream) → Good us ss → GoodSheet (sheet_of us ss)
 unfolding sheet_of
-sheet_good us ss g =
-    record {
-      good = rw (held_units_lem us, held_streams_lem ss) g;
-      whole = rw (held_units_lem us, held_streams_lem ss);
-    }
-
--- what is known of its counts and places
-module _ (f : Flowsheet) (g : GoodSheet f) where
-  pub units_whole : f.units ≡ units_of (held_units f.units)
-  unfolding sheet_of
-  units_whole = ap (λ (x : Flowsheet). x.units) g.whole
-
-  pub streams_whole : f.streams ≡ streams_of (held_streams f.streams)
-  unfolding sheet_of
-  streams_whole = ap (λ (x : Flowsheet). x.streams) g.whole
-
-  pub units_held : length (held_units f.units) ≡ f.units.count
-  units_held = sym (ap (λ (x : Units). x.count) units_whole ∙ units_count (held_units f.units))
-
-  pub streams_held : length (held_streams f.streams) ≡ f.streams.count
-  streams_held = sym (ap (λ (x : Streams). x.count) streams_whole ∙ streams_count (held_streams f.streams))
-
-  pub records_long : length f.streams.records ≡ 256
-  unfolding streams_of
-  records_long =
-      ap (λ (x : Streams). length x.records) streams_whole ∙ length-padded 256 no_stream (held_streams f.streams) g.good.few_streams
+sheet_good us ss g = g
 
 -- the flowsheet of a reading that refuses nothing
 pub reading_good : (l : List ℕ) → (reading_of l).number ≡ 0
@@ -99,3 +73,17 @@ reading_good l e =
 -- its number is the answer of the table
 pub reading_is : (l : List ℕ) → (reading_of l).number ≡ answer_of l
 reading_is l = reading_number l
+
+-- a flowsheet that was read is that of the image, and good
+pub read_good : (l : List ℕ) (f : Flowsheet) → reading (Ok f) ≡ reading_of l
+    → (answer_of l ≡ 0) × (f ≡ sheet_of (unit_list l) (stream_list l)) × GoodSheet f
+read_good l f e =
+    let n : answer_of l ≡ 0 = sym (reading_is l) ∙ sym (ap (λ (r : Reading). r.number) e) in
+    let r = reading_good l (reading_is l ∙ n) in
+    let is : f ≡ sheet_of (unit_list l) (stream_list l) = ap (λ (r : Reading). r.sheet) e ∙ r.0 in
+    (n, is, rw is (sheet_good (unit_list l) (stream_list l) r.1))
+
+-- an image that was refused is refused with that number
+pub read_refused : (l : List ℕ) (e : Refusal) → reading (Err e) ≡ reading_of l → answer_of l ≡ number_of e
+unfolding refused_with
+read_refused l e is = sym (reading_is l) ∙ sym (ap (λ (r : Reading). r.number) is)

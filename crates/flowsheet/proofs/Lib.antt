@@ -6,5 +6,6 @@ pub mod Exact
 pub mod Good
 pub mod Written
 pub mod Settled
+pub mod Tables
 mod Records
 mod Parts

@@ -1,94 +1,74 @@
 -- What the parts of an image tell together: the header, then the unit table, then the stream table. Assumes nothing.
-use mathlib.Core.List.{List}
-use mathlib.Core.Path.{◌≡◌, sym, ap, ◌∙◌}
-use Prim.Native.Nat.{ℕ, ◌+◌, ◌*◌, ◌≤◌}
-use native.Mathlib.Omega.{arith}
-use lib.ListN.{length}
-use Rattle.words.proofs.Rows.{length-table}
-use Rattle.flowsheet.specs.Answers.{header_number_of}
+use Rattle.std.proofs.Common.{◌≡◌, ℕ, ◌+◌, ◌*◌, ◌≤◌, List, length, Ok, Err, sym, ap, ◌∙◌, arith}
+use Rattle.rows.specs.Rows.{table}
+use Rattle.flowsheet.specs.Answers.{number_of, number_in, reading}
 use Rattle.flowsheet.specs.Exactly.{GoodHeader}
-use Rattle.flowsheet.specs.Image.{unit_count, stream_count, header_of, header_number, unit_at, units_number, units_as, unit_table_of, unit_list, streams_number, streams_as, stream_table_of, stream_list, answer_of, refused_with, reading_of}
-use Rattle.flowsheet.specs.Sheet.{units_of, streams_of, sheet_of, held_units}
-use Rattle.flowsheet.specs.declared.Header.TheVariants.{Counts, Refused as HeaderRefused}
-use Rattle.flowsheet.specs.declared.StreamTable.{StreamTable}
-use Rattle.flowsheet.specs.declared.UnitTable.{UnitTable}
+use Rattle.flowsheet.specs.Image.{unit_count, stream_count, header_of, header_number, unit_at, unit_table_of, units_number, unit_list, stream_at, stream_table_of, streams_number, stream_list, answer_of, reading_of}
+use Rattle.flowsheet.specs.Sheet.{sheet_of}
+use Rattle.flowsheet.specs.declared.Header.{Header}
+use Rattle.flowsheet.specs.declared.Refusal.{Refusal}
+use Rattle.flowsheet.specs.declared.Stream.{Stream}
 use Rattle.flowsheet.proofs.Exact.{good_header_is, header_good}
 use Rattle.flowsheet.proofs.First.{first_none, first_given}
-use Rattle.flowsheet.proofs.Held.{held_units_lem, units_count}
-use Rattle.flowsheet.proofs.Records.{header_read, header_refused, header_number_lem, units_number_lem, streams_number_lem, reading_refused, reading_accepted}
+use Rattle.flowsheet.proofs.Records.{answered_read, header_number_lem, units_number_lem, streams_number_lem, reading_refused, reading_accepted}
+use Rattle.flowsheet.proofs.Tables.{number_some}
 
 module _ (l : List ℕ) where
-  pub counts_read : (u s : ℕ) → header_of l ≡ Counts u s → GoodHeader l × (u ≡ unit_count l) × (s ≡ stream_count l)
-  unfolding header_of
-  counts_read u s e =
-      let r = header_read (header_number l) (unit_count l) (stream_count l) u s e in
-      (header_good l r.0, r.1, r.2)
+  refused_by : (e : Refusal) → answer_of l ≡ number_of e → reading (Err e) ≡ reading_of l
+  refused_by e is = sym (reading_refused l (number_of e) is (number_some e))
 
-  pub refused_header : (k : ℕ) → header_of l ≡ HeaderRefused k → refused_with (header_number_of (header_of l)) ≡ reading_of l
-  unfolding header_of answer_of
-  refused_header k e =
-      let some = header_refused (header_number l) (unit_count l) (stream_count l) k e in
-      rw (header_number_lem (header_number l) (unit_count l) (stream_count l)) (sym (reading_refused l (header_number l) (first_given _ _ some) some))
+  pub refused_header : (e : Refusal) → Err (number_of e) ≡ header_of l → reading (Err e) ≡ reading_of l
+  unfolding answer_of
+  refused_header e is =
+      let n : number_of e ≡ header_number l = ap number_in is ∙ header_number_lem l in
+      refused_by e (first_given _ _ (λ z. number_some e (n ∙ z)) ∙ sym n)
 
-  -- the counts leave room for the tables
-  pub units_fit : GoodHeader l → (unit_count l ≤ 64) × (16 + 2 * unit_count l ≤ length l)
-  units_fit g = (g.units, omega (arith, g.layout.lent))
+  module _ (h : Header) (is : Ok h ≡ header_of l) where
+    good : GoodHeader l
+    good = header_good l (sym (header_number_lem l) ∙ sym (ap number_in is))
 
-  pub streams_fit : GoodHeader l → (stream_count l ≤ 256) × (16 + 2 * unit_count l + 8 * stream_count l ≤ length l)
-  streams_fit g = (g.streams, omega (arith, g.layout.lent))
+    counted : h ≡ record { units = unit_count l; streams = stream_count l }
+    unfolding header_of
+    counted = answered_read (header_number l) _ h is
 
-  module _ (g : GoodHeader l) (t : UnitTable) (is : t ≡ unit_table_of l (unit_count l)) where
-    table_number : t.number ≡ units_number l (unit_count l)
-    unfolding unit_table_of
-    table_number = ap (λ (x : UnitTable). x.number) is ∙ units_number_lem (units_number l (unit_count l)) l (unit_count l)
+    pub units_fit : (h.units ≤ 64) × (16 + 2 * h.units ≤ length l)
+    units_fit = rw counted (good.units, omega (arith, good.layout.lent))
 
-    pub refused_units : (t.number ≡ 0 → ⊥) → refused_with t.number ≡ reading_of l
+    pub streams_fit : (h.streams ≤ 256) × (16 + 2 * h.units + 8 * h.streams ≤ length l)
+    streams_fit = rw counted (good.streams, omega (arith, good.layout.lent))
+
+    pub refused_units : (e : Refusal) → Err (number_of e) ≡ unit_table_of l h.units → reading (Err e) ≡ reading_of l
     unfolding answer_of
-    refused_units some =
-        let none = good_header_is l g in
-        let e = first_none _ _ none ∙ first_given _ _ (λ z. some (table_number ∙ z)) ∙ sym table_number in
-        sym (reading_refused l t.number e some)
+    refused_units e u =
+        let n : number_of e ≡ units_number l (unit_count l) =
+        ap number_in u ∙ units_number_lem l h.units ∙ ap (λ (x : Header). units_number l x.units) counted in
+        refused_by e
+        (first_none _ _ (good_header_is l good) ∙ first_given _ _ (λ z. number_some e (n ∙ z)) ∙ sym n)
 
-    module _ (ok : t.number ≡ 0) where
-      pub units_are : t.units ≡ units_of (unit_list l)
+    module _ (us : List ℕ) (u : Ok us ≡ unit_table_of l h.units) where
+      units_are : us ≡ unit_list l
       unfolding unit_table_of unit_list
       units_are =
-          ap (λ (x : UnitTable). x.units) (is ∙ ap (λ (k : ℕ). units_as k l (unit_count l)) (sym table_number ∙ ok))
+          answered_read (units_number l h.units) _ us u ∙ ap (λ (x : Header). table (unit_at l) x.units) counted
 
-      units_counted : t.units.count ≡ unit_count l
-      unfolding unit_list
-      units_counted = rw units_are (units_count (unit_list l) ∙ length-table (unit_at l) (unit_count l))
+      -- past the header and the units, the answer is that of the streams
+      answer_streams : answer_of l ≡ number_in (stream_table_of l h.units us h.streams)
+      unfolding answer_of
+      answer_streams =
+          let none : units_number l (unit_count l) ≡ 0 =
+          sym (ap (λ (x : Header). units_number l x.units) counted) ∙ sym (units_number_lem l h.units) ∙ sym (ap number_in u) in
+          first_none _ _ (good_header_is l good)
+          ∙ first_none _ _ none
+          ∙ rw (counted, units_are) (sym (streams_number_lem l (unit_count l) (unit_list l) (stream_count l)))
 
-      pub count_fits : (t.units.count ≤ 64) × (16 + 2 * t.units.count + 8 * stream_count l ≤ length l)
-      count_fits = rw units_counted (g.units, (streams_fit g).1)
+      pub refused_streams : (e : Refusal) → Err (number_of e) ≡ stream_table_of l h.units us h.streams → reading (Err e) ≡ reading_of l
+      refused_streams e s = refused_by e (answer_streams ∙ sym (ap number_in s))
 
-      module _ (z : StreamTable) (is2 : z ≡ stream_table_of l t.units.count (held_units t.units) (stream_count l)) where
-        streams_table : z ≡ streams_as (streams_number l (unit_count l) (unit_list l) (stream_count l)) l (unit_count l) (stream_count l)
-        unfolding stream_table_of
-        streams_table =
-            let held : held_units t.units ≡ unit_list l = ap held_units units_are ∙ held_units_lem (unit_list l) in
-            is2
-            ∙ ap (λ (n : ℕ). stream_table_of l n (held_units t.units) (stream_count l)) units_counted
-            ∙ ap (λ (us : List ℕ). stream_table_of l (unit_count l) us (stream_count l)) held
-
-        streams_numbered : z.number ≡ streams_number l (unit_count l) (unit_list l) (stream_count l)
-        streams_numbered =
-            ap (λ (x : StreamTable). x.number) streams_table
-            ∙ streams_number_lem (streams_number l (unit_count l) (unit_list l) (stream_count l)) l (unit_count l) (stream_count l)
-
-        -- past the header and the units, the answer is that of the streams
-        answer_streams : answer_of l ≡ z.number
-        unfolding answer_of
-        answer_streams =
-            first_none _ _ (good_header_is l g) ∙ first_none _ _ (sym table_number ∙ ok) ∙ sym streams_numbered
-
-        pub refused_streams : (z.number ≡ 0 → ⊥) → refused_with z.number ≡ reading_of l
-        refused_streams some = sym (reading_refused l z.number answer_streams some)
-
-        pub all_read : z.number ≡ 0 → record { number = 0; sheet = record { units = t.units; streams = z.streams } } ≡ reading_of l
-        unfolding sheet_of stream_list
-        all_read none =
-            let s : z.streams ≡ streams_of (stream_list l) =
-            ap (λ (x : StreamTable). x.streams)
-            (streams_table ∙ ap (λ (k : ℕ). streams_as k l (unit_count l) (stream_count l)) (sym streams_numbered ∙ none)) in
-            rw (units_are, s) (sym (reading_accepted l (answer_streams ∙ none)))
+      pub all_read : (ss : List Stream) → Ok ss ≡ stream_table_of l h.units us h.streams
+          → reading (Ok (record { units = us; streams = ss })) ≡ reading_of l
+      unfolding sheet_of stream_table_of stream_list
+      all_read ss s =
+          let e : ss ≡ stream_list l =
+          answered_read (streams_number l h.units us h.streams) _ ss s
+          ∙ ap (λ (x : Header). table (stream_at l x.units) x.streams) counted in
+          rw (units_are, e) (sym (reading_accepted l (answer_streams ∙ sym (ap number_in s))))

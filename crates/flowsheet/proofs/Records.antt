@@ -1,95 +1,56 @@
--- What a record's answer tells: that nothing was refused and which record it is, or the number that it is refused with. Assumes nothing.
-use mathlib.Core.List.{List, []}
-use mathlib.Core.Path.{◌≡◌, refl, ap, ◌∙◌}
-use Prim.Native.Nat.{ℕ, zero, suc}
-use native.Mathlib.Omega.{arith}
-use Rattle.words.specs.Rows.{padded, table}
-use Rattle.words.proofs.Rows.{length-table}
-use Rattle.flowsheet.specs.Answers.{unit_number_of, stream_number_of, header_number_of}
-use Rattle.flowsheet.specs.Image.{header_as, unit_as, units_as, unit_at, stream_as, streams_as, stream_at, unit_list, stream_list, answer_of, read_as, refused_with, reading_of}
-use Rattle.flowsheet.specs.Sheet.{no_stream, units_of, streams_of, sheet_of}
-use Rattle.flowsheet.specs.declared.Header.TheVariants.{Counts, Refused as HeaderRefused}
+-- What the answers of an image's parts tell: that nothing was refused and what was read, or the number that is refused with. Assumes nothing.
+use Rattle.std.proofs.Common.{◌≡◌, ℕ, zero, suc, List, Ok, refl, ap, ◌∙◌}
+use Rattle.rows.specs.Rows.{table}
+use Rattle.flowsheet.specs.Answers.{number_in}
+use Rattle.flowsheet.specs.Image.{answered, header_number, header_of, fault_at, table_read, unit_at, unit_number_at, units_number, unit_table_of, stream_number, stream_at, stream_number_at, streams_number, stream_table_of, unit_list, stream_list, answer_of, read_as, refused_with, reading_of}
+use Rattle.flowsheet.specs.Sheet.{sheet_of, stream_fault}
 use Rattle.flowsheet.specs.declared.Stream.{Stream}
-use Rattle.flowsheet.specs.declared.StreamRecord.TheVariants.{Held, Refused as StreamRefused}
-use Rattle.flowsheet.specs.declared.UnitRecord.TheVariants.{Unit, Refused as UnitRefused}
+use Rattle.flowsheet.proofs.First.{first_or_none, first_from_same}
 
--- ---- the header
+module _ {A : Type 0} where
+  pub number_answered : (k : ℕ) (a : A) → number_in (answered k a) ≡ k
+  number_answered zero a = refl
+  number_answered (suc k) a = refl
 
-pub header_read : (m u s v t : ℕ) → header_as m u s ≡ Counts v t → (m ≡ 0) × (v ≡ u) × (t ≡ s)
-header_read zero u s v t e = (refl, cc, cc)
-header_read (suc m) u s v t e = absurd (let z : ◌≡◌ {A = ℕ} 0 1 = cc in omega arith)
+  pub answered_read : (k : ℕ) (a x : A) → Ok x ≡ answered k a → x ≡ a
+  answered_read zero a x e = cc
+  answered_read (suc k) a x e = absurd (cc)
 
-pub header_refused : (m u s k : ℕ) → header_as m u s ≡ HeaderRefused k → m ≡ 0 → ⊥
-header_refused zero u s k e z = let z : ◌≡◌ {A = ℕ} 0 1 = cc in omega arith
-header_refused (suc m) u s k e z = omega arith
+-- ---- the number of each part's answer
 
-pub header_number_lem : (m u s : ℕ) → header_number_of (header_as m u s) ≡ m
-header_number_lem zero u s = refl
-header_number_lem (suc m) u s = refl
+pub header_number_lem : (l : List ℕ) → number_in (header_of l) ≡ header_number l
+unfolding header_of
+header_number_lem l = number_answered (header_number l) _
 
--- ---- a unit record, and the unit table
+pub units_number_lem : (l : List ℕ) (n : ℕ) → number_in (unit_table_of l n) ≡ units_number l n
+unfolding unit_table_of
+units_number_lem l n = number_answered (units_number l n) _
 
-pub unit_given : (m n : ℕ) → (m ≡ 0 → ⊥) → unit_as m n ≡ UnitRefused m
-unit_given zero n f = absurd (f refl)
-unit_given (suc m) n f = refl
+pub streams_number_lem : (l : List ℕ) (u : ℕ) (us : List ℕ) (n : ℕ) → number_in (stream_table_of l u us n) ≡ streams_number l u us n
+unfolding stream_table_of
+streams_number_lem l u us n = number_answered (streams_number l u us n) _
 
-pub unit_read : (m n k : ℕ) → unit_as m n ≡ Unit k → (m ≡ 0) × (k ≡ n)
-unit_read zero n k e = (refl, cc)
-unit_read (suc m) n k e = absurd (let z : ◌≡◌ {A = ℕ} 0 1 = cc in omega arith)
+-- ---- the two tables as tables of records
 
-pub unit_refused : (m n k : ℕ) → unit_as m n ≡ UnitRefused k → m ≡ 0 → ⊥
-unit_refused zero n k e z = let z : ◌≡◌ {A = ℕ} 0 1 = cc in omega arith
-unit_refused (suc m) n k e z = omega arith
+pub unit_table : (l : List ℕ) (n : ℕ) → table_read (fault_at (λ (u : ℕ). u) 6 (λ (u : ℕ). 0) (unit_at l)) (unit_at l) n ≡ unit_table_of l n
+unfolding unit_table_of unit_number_at
+unit_table l n =
+    ap (λ (k : ℕ). answered k (table (unit_at l) n))
+    (first_from_same _ (unit_number_at l) 0 n (λ i. first_or_none (unit_number_at l i)))
 
-pub unit_number : (m n : ℕ) → unit_number_of (unit_as m n) ≡ m
-unit_number zero n = refl
-unit_number (suc m) n = refl
+pub stream_number_lem : (l : List ℕ) (u : ℕ) (us : List ℕ) (i : ℕ)
+    → fault_at (λ (s : Stream). s.number) 7 (stream_fault us) (stream_at l u) i ≡ stream_number_at l u us i
+unfolding stream_number_at stream_number
+stream_number_lem l u us i = refl
 
-pub units_refused : (k : ℕ) (l : List ℕ) (n : ℕ) → (k ≡ 0 → ⊥) → units_as k l n ≡ record { number = k; units = units_of [] }
-units_refused zero l n f = absurd (f refl)
-units_refused (suc k) l n f = refl
-
-pub units_read : (k : ℕ) (l : List ℕ) (n : ℕ) → k ≡ 0
-    → units_as k l n ≡ record { number = 0; units = record { count = n; numbers = padded 64 0 (table (unit_at l) n) } }
-unfolding units_of
-units_read k l n e = rw (e, length-table (unit_at l) n)
-
--- ---- a stream record, and the stream table
-
-pub stream_given : (m : ℕ) (s : Stream) → (m ≡ 0 → ⊥) → stream_as m s ≡ StreamRefused m
-stream_given zero s f = absurd (f refl)
-stream_given (suc m) s f = refl
-
-pub stream_read : (m : ℕ) (s t : Stream) → stream_as m s ≡ Held t → (m ≡ 0) × (t ≡ s)
-stream_read zero s t e = (refl, cc)
-stream_read (suc m) s t e = absurd (let z : ◌≡◌ {A = ℕ} 0 1 = cc in omega arith)
-
-pub stream_refused : (m : ℕ) (s : Stream) (k : ℕ) → stream_as m s ≡ StreamRefused k → m ≡ 0 → ⊥
-stream_refused zero s k e z = let z : ◌≡◌ {A = ℕ} 0 1 = cc in omega arith
-stream_refused (suc m) s k e z = omega arith
-
-pub stream_number_lem : (m : ℕ) (s : Stream) → stream_number_of (stream_as m s) ≡ m
-stream_number_lem zero s = refl
-stream_number_lem (suc m) s = refl
-
-pub streams_refused : (k : ℕ) (l : List ℕ) (u n : ℕ) → (k ≡ 0 → ⊥) → streams_as k l u n ≡ record { number = k; streams = streams_of [] }
-streams_refused zero l u n f = absurd (f refl)
-streams_refused (suc k) l u n f = refl
-
-pub streams_read : (k : ℕ) (l : List ℕ) (u n : ℕ) → k ≡ 0
-    → streams_as k l u n ≡ record { number = 0; streams = record { count = n; records = padded 256 no_stream (table (stream_at l u) n) } }
-unfolding streams_of
-streams_read k l u n e = rw (e, length-table (stream_at l u) n)
+pub stream_table : (l : List ℕ) (u : ℕ) (us : List ℕ) (n : ℕ)
+    → table_read (fault_at (λ (s : Stream). s.number) 7 (stream_fault us) (stream_at l u)) (stream_at l u) n ≡ stream_table_of l u us n
+unfolding stream_table_of
+stream_table l u us n =
+    ap (λ (k : ℕ). answered k (table (stream_at l u) n))
+    (first_from_same _ (stream_number_at l u us) 0 n (stream_number_lem l u us))
 
 -- ---- the whole
-
-pub units_number_lem : (k : ℕ) (l : List ℕ) (n : ℕ) → (units_as k l n).number ≡ k
-units_number_lem zero l n = refl
-units_number_lem (suc k) l n = refl
-
-pub streams_number_lem : (k : ℕ) (l : List ℕ) (u n : ℕ) → (streams_as k l u n).number ≡ k
-streams_number_lem zero l u n = refl
-streams_number_lem (suc k) l u n = refl
 
 read_refused : (k : ℕ) (l : List ℕ) → (k ≡ 0 → ⊥) → read_as k l ≡ refused_with k
 read_refused zero l f = absurd (f refl)

@@ -1,26 +1,67 @@
 -- What each public function answers is settled: two results that its statement allows are equal. Assumes nothing.
-use mathlib.Core.List.{List, []}
-use mathlib.Core.Path.{◌≡◌, sym, ◌∙◌}
-use Prim.Native.Nat.{ℕ}
-use Rattle.flowsheet.specs.Image.{reading_of}
-use Rattle.flowsheet.specs.Sheet.{sheet_of, held_units, place_of, weight_fault, stream_fault}
+use Rattle.std.proofs.Common.{◌≡◌, ℕ, ◌∷◌, List, [], Option, Result, Ok, Err, get_or, refl, sym, ap, ◌∙◌}
+use Rattle.flowsheet.specs.Answers.{number_of, fault_of, reading}
+use Rattle.flowsheet.specs.Image.{Reading, refused_with, reading_of}
+use Rattle.flowsheet.specs.Sheet.{sheet_of, place_of, ends_of, weight_fault, stream_fault}
 use Rattle.flowsheet.specs.declared.Flowsheet.{Flowsheet}
-use Rattle.flowsheet.specs.declared.Place.{Place}
-use Rattle.flowsheet.specs.declared.Reading.{Reading}
+use Rattle.flowsheet.specs.declared.Refusal.{Refusal}
+use Rattle.flowsheet.specs.declared.Refusal.TheVariants.{Short, Edition, Spare, Counts, Layout, UnitNumber, StreamNumber, End, Outside, Weight}
 use Rattle.flowsheet.specs.declared.Stream.{Stream}
-use Rattle.flowsheet.specs.declared.Units.{Units}
+use Rattle.flowsheet.proofs.Tables.{number_some}
 
-pub read : (l : List ℕ) (r s : Reading) → r ≡ reading_of l → s ≡ reading_of l → r ≡ s
-read l r s p q = p ∙ sym q
+-- a number is that of one refusal
+refusal_from : ℕ → Refusal
+refusal_from n =
+    get_or (Short ∷ (Short ∷ (Edition ∷ (Spare ∷ (Counts ∷ (Layout ∷ (UnitNumber ∷ (StreamNumber ∷ (End ∷ (Outside ∷ (Weight ∷ []))))))))))) n Short
+
+from_number : (r : Refusal) → refusal_from (number_of r) ≡ r
+unfolding refusal_from
+from_number Short = refl
+from_number Edition = refl
+from_number Spare = refl
+from_number Counts = refl
+from_number Layout = refl
+from_number UnitNumber = refl
+from_number StreamNumber = refl
+from_number End = refl
+from_number Outside = refl
+from_number Weight = refl
+
+pub one_refusal : (r s : Refusal) → number_of r ≡ number_of s → r ≡ s
+one_refusal r s e = sym (from_number r) ∙ ap refusal_from e ∙ from_number s
+
+-- two answers with the same reading are equal
+pub one_reading : (r s : Result Flowsheet Refusal) → reading r ≡ reading s → r ≡ s
+unfolding refused_with
+one_reading (Ok f) (Ok g) e = ap (λ (x : Reading). Ok x.sheet) e
+one_reading (Ok f) (Err d) e = absurd (number_some d (sym (ap (λ (x : Reading). x.number) e)))
+one_reading (Err c) (Ok g) e = absurd (number_some c (ap (λ (x : Reading). x.number) e))
+one_reading (Err c) (Err d) e = ap Err (one_refusal c d (ap (λ (x : Reading). x.number) e))
+
+-- two answers that carry no value and have the same number are equal
+pub one_fault : (r s : Result (Unit {0}) Refusal) → fault_of r ≡ fault_of s → r ≡ s
+one_fault (Ok f) (Ok g) e = refl
+one_fault (Ok f) (Err d) e = absurd (number_some d (sym e))
+one_fault (Err c) (Ok g) e = absurd (number_some c e)
+one_fault (Err c) (Err d) e = ap Err (one_refusal c d e)
+
+pub from : (e : Refusal) (r s : ℕ) → r ≡ number_of e → s ≡ number_of e → r ≡ s
+from e r s p q = p ∙ sym q
+
+pub read : (l : List ℕ) (r s : Result Flowsheet Refusal) → reading r ≡ reading_of l → reading s ≡ reading_of l → r ≡ s
+read l r s p q = one_reading r s (p ∙ sym q)
 
 pub empty : (r s : Flowsheet) → r ≡ sheet_of [] [] → s ≡ sheet_of [] [] → r ≡ s
 empty r s p q = p ∙ sym q
 
-pub place_of_lem : (us : Units) (n : ℕ) (r s : Place) → r ≡ place_of (held_units us) n → s ≡ place_of (held_units us) n → r ≡ s
+pub place_of_lem : (us : List ℕ) (n : ℕ) (r s : Option ℕ) → r ≡ place_of us n → s ≡ place_of us n → r ≡ s
 place_of_lem us n r s p q = p ∙ sym q
 
-pub weight_fault_lem : (w r s : ℕ) → r ≡ weight_fault w → s ≡ weight_fault w → r ≡ s
-weight_fault_lem w r s p q = p ∙ sym q
+pub ends : (us : List ℕ) (t : Stream) (r s : Option (ℕ × ℕ)) → r ≡ ends_of us t → s ≡ ends_of us t → r ≡ s
+ends us t r s p q = p ∙ sym q
 
-pub stream_fault_lem : (us : Units) (t : Stream) (r s : ℕ) → r ≡ stream_fault (held_units us) t → s ≡ stream_fault (held_units us) t → r ≡ s
-stream_fault_lem us t r s p q = p ∙ sym q
+pub weight_fault_lem : (w : ℕ) (r s : Result (Unit {0}) Refusal) → fault_of r ≡ weight_fault w → fault_of s ≡ weight_fault w → r ≡ s
+weight_fault_lem w r s p q = one_fault r s (p ∙ sym q)
+
+pub stream_fault_lem : (us : List ℕ) (t : Stream) (r s : Result (Unit {0}) Refusal) → fault_of r ≡ stream_fault us t → fault_of s ≡ stream_fault us t → r ≡ s
+stream_fault_lem us t r s p q = one_fault r s (p ∙ sym q)

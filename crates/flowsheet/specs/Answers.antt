@@ -1,20 +1,38 @@
--- The answers that are enums: 01's number for each case, 0 where nothing is refused, and the value that it carries.
-use Rattle.std.specs.Prelude.{ℕ}
-use Rattle.flowsheet.specs.declared.Header.{Header}
-use Rattle.flowsheet.specs.declared.Header.TheVariants.{Counts, Refused as HeaderRefused}
-use Rattle.flowsheet.specs.declared.StreamRecord.{StreamRecord}
-use Rattle.flowsheet.specs.declared.StreamRecord.TheVariants.{Held, Refused as StreamRefused}
-use Rattle.flowsheet.specs.declared.UnitRecord.{UnitRecord}
-use Rattle.flowsheet.specs.declared.UnitRecord.TheVariants.{Unit, Refused as UnitRefused}
+-- The number of each refusal, 0 where nothing is refused, and the value that an answer carries.
+use Rattle.std.specs.Prelude.{ℕ, Result, Ok, Err}
+use Rattle.flowsheet.specs.Image.{Reading, refused_with}
+use Rattle.flowsheet.specs.declared.Flowsheet.{Flowsheet}
+use Rattle.flowsheet.specs.declared.Refusal.{Refusal}
+use Rattle.flowsheet.specs.declared.Refusal.TheVariants.{Short, Edition, Spare, Counts, Layout, UnitNumber, StreamNumber, End, Outside, Weight}
 
-abbrev pub unit_number_of : UnitRecord → ℕ
-unit_number_of (Unit n) = 0
-unit_number_of (UnitRefused k) = k
+abbrev pub number_of : Refusal → ℕ
+number_of Short = 1
+number_of Edition = 2
+number_of Spare = 3
+number_of Counts = 4
+number_of Layout = 5
+number_of UnitNumber = 6
+number_of StreamNumber = 7
+number_of End = 8
+number_of Outside = 9
+number_of Weight = 10
 
-abbrev pub stream_number_of : StreamRecord → ℕ
-stream_number_of (Held s) = 0
-stream_number_of (StreamRefused k) = k
+-- the number that is refused with
+abbrev pub fault_of : {A : Type 0} → Result A Refusal → ℕ
+fault_of (Ok a) = 0
+fault_of (Err r) = number_of r
 
-abbrev pub header_number_of : Header → ℕ
-header_number_of (Counts u s) = 0
-header_number_of (HeaderRefused k) = k
+-- an answer with the number for the refusal
+abbrev pub numbered : {A : Type 0} → Result A Refusal → Result A ℕ
+numbered (Ok a) = Ok a
+numbered (Err r) = Err (number_of r)
+
+-- the number in such an answer, 0 where nothing is refused
+abbrev pub number_in : {A : Type 0} → Result A ℕ → ℕ
+number_in (Ok a) = 0
+number_in (Err k) = k
+
+-- what reading an image answers: 0 and the flowsheet, or the refusal's number and an empty flowsheet
+abbrev pub reading : Result Flowsheet Refusal → Reading
+reading (Ok s) = record { number = 0; sheet = s }
+reading (Err r) = refused_with (number_of r)

@@ -1,7 +1,7 @@
 -- A flowsheet that could have been read: what the crates above count on.
-use Rattle.std.specs.Prelude.{List, ◌≡◌, ℕ, ◌≤◌, ◌<◌, length, get_or}
+use Rattle.std.specs.Prelude.{List, ℕ, ◌≤◌, ◌<◌, length, get_or}
 use Rattle.flowsheet.specs.Exactly.{Numbered, Sound}
-use Rattle.flowsheet.specs.Sheet.{no_stream, held_units, held_streams, sheet_of}
+use Rattle.flowsheet.specs.Sheet.{no_stream}
 use Rattle.flowsheet.specs.declared.Flowsheet.{Flowsheet}
 use Rattle.flowsheet.specs.declared.Stream.{Stream}
 
@@ -13,7 +13,6 @@ pub record Good (us : List ℕ) (ss : List Stream) : Type 0 where
   pub streams : (i : ℕ) → i < length ss → Numbered (λ (j : ℕ). (get_or ss j no_stream).number) i
   pub sound : (i : ℕ) → i < length ss → Sound us (get_or ss i no_stream)
 
--- a flowsheet by value that could have been read: "every place beyond its counts is zero"
-pub record GoodSheet (f : Flowsheet) : Type 0 where
-  pub good : Good (held_units f.units) (held_streams f.streams)
-  pub whole : f ≡ sheet_of (held_units f.units) (held_streams f.streams)
+-- a flowsheet by value that could have been read
+abbrev pub GoodSheet : Flowsheet → Type 0
+GoodSheet f = Good f.units f.streams

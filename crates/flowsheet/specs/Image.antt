@@ -1,20 +1,13 @@
 -- The flowsheet image: where its records lie, the number that each is refused with, and what reading it answers. "Numbers are 16 bits,
 -- little-endian. Header, 16 bytes: edition (1), unit count U, stream count S, offset of the unit table, offset of the stream table, total
 -- length, then four zero bytes. The unit table starts at 16, the stream table follows at once."
-use Rattle.std.specs.Prelude.{Bool, cond, ◌&&◌, List, [], ℕ, zero, suc, ◌+◌, ◌*◌, eqb, ltb, leb, length}
-use Rattle.words.specs.Rows.{table}
+use Rattle.std.specs.Prelude.{Bool, cond, ◌&&◌, List, [], ℕ, zero, suc, ◌+◌, ◌*◌, eqb, ltb, leb, length, Result, Ok, Err}
+use Rattle.rows.specs.Rows.{table}
 use Rattle.words.specs.Words.{number_at}
-use Rattle.flowsheet.specs.Sheet.{units_of, streams_of, sheet_of, number_fault, stream_fault}
+use Rattle.flowsheet.specs.Sheet.{sheet_of, number_fault, stream_fault}
+use Rattle.flowsheet.specs.declared.Flowsheet.{Flowsheet}
 use Rattle.flowsheet.specs.declared.Header.{Header}
-use Rattle.flowsheet.specs.declared.Header.TheVariants.{Counts, Refused as HeaderRefused}
-use Rattle.flowsheet.specs.declared.Reading.{Reading}
 use Rattle.flowsheet.specs.declared.Stream.{Stream}
-use Rattle.flowsheet.specs.declared.StreamRecord.{StreamRecord}
-use Rattle.flowsheet.specs.declared.StreamRecord.TheVariants.{Held, Refused as StreamRefused}
-use Rattle.flowsheet.specs.declared.StreamTable.{StreamTable}
-use Rattle.flowsheet.specs.declared.UnitRecord.{UnitRecord}
-use Rattle.flowsheet.specs.declared.UnitRecord.TheVariants.{Unit, Refused as UnitRefused}
-use Rattle.flowsheet.specs.declared.UnitTable.{UnitTable}
 
 -- the number a, or b where a is none: "in order"
 abbrev pub first : ℕ → ℕ → ℕ
@@ -30,6 +23,11 @@ first_from f i (suc n) = first (f i) (first_from f (suc i) n)
 abbrev pub before : (ℕ → ℕ) → ℕ → ℕ
 before f zero = 0
 before f (suc i) = f i
+
+-- what is read, where its number of refusal is 0; else that number
+abbrev pub answered : {A : Type 0} → ℕ → A → Result A ℕ
+answered zero a = Ok a
+answered (suc k) a = Err (suc k)
 
 -- ---- the header
 
@@ -65,21 +63,20 @@ header_number l =
     3)
     2)
 
-abbrev pub header_as : ℕ → ℕ → ℕ → Header
-header_as zero u s = Counts u s
-header_as (suc k) u s = HeaderRefused (suc k)
+unfoldable pub header_of : List ℕ → Result Header ℕ
+header_of l = answered (header_number l) (record { units = unit_count l; streams = stream_count l })
 
-unfoldable pub header_of : List ℕ → Header
-header_of l = header_as (header_number l) (unit_count l) (stream_count l)
+-- ---- a table whose place i holds the record `at i`
+
+-- the number that record i is refused with: k where its number does not rise, else what is wrong with the rest of it
+abbrev pub fault_at : {A : Type 0} → (A → ℕ) → ℕ → (A → ℕ) → (ℕ → A) → ℕ → ℕ
+fault_at number k fault at i = first (number_fault (number (at i)) (before (λ (j : ℕ). number (at j)) i) k) (fault (at i))
+
+-- the n records, or the first number that one is refused with
+abbrev pub table_read : {A : Type 0} → (ℕ → ℕ) → (ℕ → A) → ℕ → Result (List A) ℕ
+table_read f at n = answered (first_from f 0 n) (table at n)
 
 -- ---- the unit records
-
-abbrev pub unit_as : ℕ → ℕ → UnitRecord
-unit_as zero n = Unit n
-unit_as (suc k) n = UnitRefused (suc k)
-
-unfoldable pub unit_record_of : List ℕ → ℕ → ℕ → UnitRecord
-unit_record_of l at last = unit_as (number_fault (number_at 2 l at) last 6) (number_at 2 l at)
 
 -- the unit in place i of the table
 unfoldable pub unit_at : List ℕ → ℕ → ℕ
@@ -93,12 +90,8 @@ unit_number_at l i = number_fault (unit_at l i) (before (unit_at l) i) 6
 abbrev pub units_number : List ℕ → ℕ → ℕ
 units_number l n = first_from (unit_number_at l) 0 n
 
-abbrev pub units_as : ℕ → List ℕ → ℕ → UnitTable
-units_as zero l n = record { number = 0; units = units_of (table (unit_at l) n) }
-units_as (suc k) l n = record { number = suc k; units = units_of [] }
-
-unfoldable pub unit_table_of : List ℕ → ℕ → UnitTable
-unit_table_of l n = units_as (units_number l n) l n
+unfoldable pub unit_table_of : List ℕ → ℕ → Result (List ℕ) ℕ
+unit_table_of l n = table_read (unit_number_at l) (unit_at l) n
 
 -- ---- the stream records
 
@@ -116,13 +109,6 @@ stream_held l at =
 unfoldable pub stream_number : List ℕ → ℕ → Stream → ℕ
 stream_number us last s = first (number_fault s.number last 7) (stream_fault us s)
 
-abbrev pub stream_as : ℕ → Stream → StreamRecord
-stream_as zero s = Held s
-stream_as (suc k) s = StreamRefused (suc k)
-
-unfoldable pub stream_record_of : List ℕ → ℕ → ℕ → List ℕ → StreamRecord
-stream_record_of l at last us = stream_as (stream_number us last (stream_held l at)) (stream_held l at)
-
 -- the stream in place i of the table that follows u units
 unfoldable pub stream_at : List ℕ → ℕ → ℕ → Stream
 stream_at l u i = stream_held l (16 + 2 * u + 8 * i)
@@ -137,12 +123,8 @@ stream_number_at l u us i = stream_number us (stream_before l u i) (stream_at l 
 abbrev pub streams_number : List ℕ → ℕ → List ℕ → ℕ → ℕ
 streams_number l u us n = first_from (stream_number_at l u us) 0 n
 
-abbrev pub streams_as : ℕ → List ℕ → ℕ → ℕ → StreamTable
-streams_as zero l u n = record { number = 0; streams = streams_of (table (stream_at l u) n) }
-streams_as (suc k) l u n = record { number = suc k; streams = streams_of [] }
-
-unfoldable pub stream_table_of : List ℕ → ℕ → List ℕ → ℕ → StreamTable
-stream_table_of l u us n = streams_as (streams_number l u us n) l u n
+unfoldable pub stream_table_of : List ℕ → ℕ → List ℕ → ℕ → Result (List Stream) ℕ
+stream_table_of l u us n = table_read (stream_number_at l u us) (stream_at l u) n
 
 -- ---- the image
 
@@ -159,7 +141,11 @@ answer_of l =
     first (header_number l)
     (first (units_number l (unit_count l)) (streams_number l (unit_count l) (unit_list l) (stream_count l)))
 
--- a refusal: its number, and an empty flowsheet
+-- what reading an image answers: 0 and the flowsheet, or the refusal's number and an empty flowsheet
+pub record Reading : Type 0 where
+  pub number : ℕ
+  pub sheet : Flowsheet
+
 unfoldable pub refused_with : ℕ → Reading
 refused_with k = record { number = k; sheet = sheet_of [] [] }
 

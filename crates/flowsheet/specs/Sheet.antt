@@ -1,53 +1,38 @@
 -- A flowsheet as a value: the units and the streams that it holds, and what a stream may be.
-use Rattle.std.specs.Prelude.{Bool, true, false, cond, ◌&&◌, List, [], ◌∷◌, ℕ, suc, eqb, ltb, leb, length, take}
-use Rattle.words.specs.Rows.{padded}
+use Rattle.std.specs.Prelude.{Bool, true, cond, ◌&&◌, List, ℕ, eqb, ltb, leb, Option, is_some}
+use Rattle.std.specs.List.{position}
+use Rattle.std.specs.Option.{option_map, option_and_then}
 use Rattle.flowsheet.specs.declared.Flowsheet.{Flowsheet}
-use Rattle.flowsheet.specs.declared.Place.{Place}
-use Rattle.flowsheet.specs.declared.Place.TheVariants.{At, Nowhere}
 use Rattle.flowsheet.specs.declared.Stream.{Stream}
-use Rattle.flowsheet.specs.declared.Streams.{Streams}
-use Rattle.flowsheet.specs.declared.Units.{Units}
 
 -- what stands in a place beyond the streams
 abbrev pub no_stream : Stream
 no_stream = record { number = 0; source = 0; receiver = 0; weight = 0 }
 
--- a flowsheet of these units and these streams: "every place beyond its counts is zero"
-unfoldable pub units_of : List ℕ → Units
-units_of us = record { count = length us; numbers = padded 64 0 us }
-
-unfoldable pub streams_of : List Stream → Streams
-streams_of ss = record { count = length ss; records = padded 256 no_stream ss }
-
+-- a flowsheet of these units and these streams
 unfoldable pub sheet_of : List ℕ → List Stream → Flowsheet
-sheet_of us ss = record { units = units_of us; streams = streams_of ss }
+sheet_of us ss = record { units = us; streams = ss }
 
--- the units and the streams that are held
-unfoldable pub held_units : Units → List ℕ
-held_units u = take u.count u.numbers
+-- the first place at which n stands in the list
+unfoldable pub place_of : List ℕ → ℕ → Option ℕ
+place_of us n = position (λ (u : ℕ). eqb u n) us
 
-unfoldable pub held_streams : Streams → List Stream
-held_streams s = take s.count s.records
-
--- the first place from i on at which n stands in the list
-abbrev pub place_from : List ℕ → ℕ → ℕ → Place
-place_from [] i n = Nowhere
-place_from (u ∷ us) i n = cond (eqb u n) (At i) (place_from us (suc i) n)
-
-unfoldable pub place_of : List ℕ → ℕ → Place
-place_of us n = place_from us 0 n
-
-abbrev pub found : Place → Bool
-found (At i) = true
-found Nowhere = false
+-- the places of a stream's source and receiver, where both are units
+unfoldable pub ends_of : List ℕ → Stream → Option (ℕ × ℕ)
+ends_of us s =
+    option_and_then (λ (i : ℕ). option_map (λ (j : ℕ). (i, j)) (place_of us s.receiver)) (place_of us s.source)
 
 -- "Source and receiver are unit numbers of the table, or 0 for outside"
 unfoldable pub known_end : List ℕ → ℕ → Bool
-known_end us e = cond (eqb e 0) true (found (place_of us e))
+known_end us e = cond (eqb e 0) true (is_some (place_of us e))
 
--- "1 to 9,999, strictly rising": 0, or the number k where n is out of range or does not rise above the one before it
+-- "1 to 9,999, strictly rising": n is in range and above the number before it
+abbrev pub in_turn : ℕ → ℕ → Bool
+in_turn n last = leb 1 n && (leb n 9999 && ltb last n)
+
+-- 0, or the number k where n is out of range or does not rise above the one before it
 unfoldable pub number_fault : ℕ → ℕ → ℕ → ℕ
-number_fault n last k = cond (leb 1 n && (leb n 9999 && ltb last n)) 0 k
+number_fault n last k = cond (in_turn n last) 0 k
 
 -- 10, "weight out of range"
 unfoldable pub weight_fault : ℕ → ℕ

@@ -1,13 +1,17 @@
 // A flowsheet as a value, and reading its image: the flowsheet, or exactly one of the refusals 1 to 10.
 #![tactic(auto)]
 
-ghost use Rattle.std.specs.Prelude.{◌≡◌, ℕ, ◌+◌, ◌*◌, ◌≤◌, ◌<◌, length, []};
-ghost use Rattle.flowsheet.specs.Sheet.{units_of, streams_of, sheet_of, held_units, place_of, known_end, number_fault, weight_fault, stream_fault};
-ghost use Rattle.flowsheet.specs.Image.{header_of, laid_out, unit_record_of, unit_table_of, stream_held, stream_record_of, stream_table_of, refused_with, reading_of};
-ghost use Rattle.flowsheet.specs.Answers.{header_number_of, unit_number_of, stream_number_of};
+ghost use Rattle.std.specs.Prelude.{◌≡◌, ℕ, List, ◌+◌, ◌*◌, ◌≤◌, length, [], Some, None, if◌then◌else◌};
+ghost use Rattle.words.specs.Words.{number_at};
+ghost use Rattle.flowsheet.specs.Sheet.{no_stream, sheet_of, place_of, ends_of, known_end, in_turn, weight_fault, stream_fault};
+ghost use Rattle.flowsheet.specs.Answers.{number_of, fault_of, numbered, reading};
+ghost use Rattle.flowsheet.specs.Image.{header_of, laid_out, stream_held, fault_at, table_read, reading_of};
+
+use rows::{Blank, Row};
+use words::Word;
 
 // A stream: its number, the unit that it leaves and the unit that it enters (0 for outside), and its weight.
-#[derive(Clone, Copy)]
+#[derive(Clone, Copy, Debug, PartialEq, Eq)]
 pub struct Stream {
     pub number: u16,
     pub source: u16,
@@ -15,19 +19,25 @@ pub struct Stream {
     pub weight: u16,
 }
 
-// At most 64 units by number, rising; the places beyond the count are zero.
-#[derive(Clone, Copy)]
-pub struct Units {
-    pub count: usize,
-    pub numbers: [u16; 64],
+// What stands in a place beyond the streams.
+impl Blank for Stream {
+    ghost blank = { no_stream };
+
+    fn blank() -> Stream {
+        Stream {
+            number: 0,
+            source: 0,
+            receiver: 0,
+            weight: 0,
+        }
+    }
 }
 
-// At most 256 streams, rising by number; the places beyond the count are zero.
-#[derive(Clone, Copy)]
-pub struct Streams {
-    pub count: usize,
-    pub records: [Stream; 256],
-}
+// Units by number, rising.
+pub type Units = Row<u16, 64>;
+
+// Streams, rising by number.
+pub type Streams = Row<Stream, 256>;
 
 #[derive(Clone, Copy)]
 pub struct Flowsheet {
@@ -35,127 +45,113 @@ pub struct Flowsheet {
     pub streams: Streams,
 }
 
-// What reading an image answers: 0 and the flowsheet, or the refusal's number and an empty flowsheet.
-#[derive(Clone, Copy)]
-pub struct Reading {
-    pub number: u32,
-    pub sheet: Flowsheet,
+// Why an image is refused.
+#[derive(Clone, Copy, Debug, PartialEq, Eq)]
+pub enum Refusal {
+    // 1: fewer than 16 bytes
+    Short,
+    // 2: edition not 1
+    Edition,
+    // 3: a spare byte not zero
+    Spare,
+    // 4: U over 64 or S over 256
+    Counts,
+    // 5: offsets, total or lent length differ from the counts
+    Layout,
+    // 6: unit number out of range or not rising
+    UnitNumber,
+    // 7: stream number out of range or not rising
+    StreamNumber,
+    // 8: an end that is neither 0 nor a known unit
+    End,
+    // 9: both ends 0
+    Outside,
+    // 10: weight out of range
+    Weight,
 }
 
-// Where a unit stands in the unit table.
-#[derive(Clone, Copy)]
-pub enum Place {
-    At(usize),
-    Nowhere,
-}
+impl From<Refusal> for u32 {
+    ghost from_gives = { λ refusal number. number ≡ number_of refusal };
 
-// A unit record: its number, or the refusal's.
-#[derive(Clone, Copy)]
-pub enum UnitRecord {
-    Unit(u16),
-    Refused(u32),
-}
-
-// A stream record: the stream, or the refusal's number.
-#[derive(Clone, Copy)]
-pub enum StreamRecord {
-    Held(Stream),
-    Refused(u32),
-}
-
-// An image's header: the counts of units and of streams, or the refusal's number.
-#[derive(Clone, Copy)]
-pub enum Header {
-    Counts(usize, usize),
-    Refused(u32),
-}
-
-// The place of the unit of that number.
-pub fn place_of(units: Units, number: u16) -> Place
-    ensures { result ≡ place_of (held_units units) number }
-{
-    let count = units.count;
-    let numbers = units.numbers;
-    let mut i: usize = 0;
-    while i < 64 {
-        if count <= i {
-            return Place::Nowhere;
+    fn from(refusal: Refusal) -> u32 {
+        match refusal {
+            Refusal::Short => 1,
+            Refusal::Edition => 2,
+            Refusal::Spare => 3,
+            Refusal::Counts => 4,
+            Refusal::Layout => 5,
+            Refusal::UnitNumber => 6,
+            Refusal::StreamNumber => 7,
+            Refusal::End => 8,
+            Refusal::Outside => 9,
+            Refusal::Weight => 10,
         }
-        if numbers[i] == number {
-            return Place::At(i);
-        }
-        i += 1;
     }
-    Place::Nowhere
+}
+
+// The place of the unit of that number in the unit table.
+#[tactic(auto, unfolding(crate::specs::Sheet::place_of))]
+pub fn place_of(units: &[u16], number: u16) -> Option<usize>
+    ensures { result ≡ place_of units.now number }
+{
+    units.iter().position(|unit| *unit == number)
+}
+
+// The places of a stream's source and receiver, where both are units.
+#[tactic(auto, unfolding(crate::specs::Sheet::ends_of))]
+pub fn ends(units: &[u16], stream: &Stream) -> Option<(usize, usize)>
+    ensures { result ≡ ends_of units.now stream.now }
+{
+    let source = place_of(units, stream.source)?;
+    let receiver = place_of(units, stream.receiver)?;
+    Some((source, receiver))
 }
 
 // Whether an end is outside, or a unit of the table.
 #[tactic(auto, unfolding(crate::specs::Sheet::known_end))]
-fn known_end(units: Units, end: u16) -> bool
-    ensures { result ≡ known_end (held_units units) end }
+fn known_end(units: &[u16], end: u16) -> bool
+    ensures { result ≡ known_end units.now end }
 {
-    if end == 0 {
-        return true;
-    }
-    let place = place_of(units, end);
-    match place {
-        Place::At(_) => true,
-        Place::Nowhere => false,
-    }
+    end == 0 || place_of(units, end).is_some()
 }
 
-// What is wrong with the number of a unit or a stream, after the number `last`: 0, or `fault` where it is out of range or not rising.
-#[tactic(auto, unfolding(crate::specs::Sheet::number_fault))]
-fn number_fault(number: u16, last: u16, fault: u32) -> u32
-    ensures { result ≡ number_fault number last fault }
+// Whether a number is 1 to 9,999 and above the one before it.
+fn in_turn(number: u16, last: u16) -> bool
+    ensures { result ≡ in_turn number last }
 {
-    if number < 1 {
-        return fault;
-    }
-    if 9999 < number {
-        return fault;
-    }
-    if number <= last {
-        return fault;
-    }
-    0
+    1 <= number && number <= 9999 && last < number
 }
 
-// What is wrong with a weight: 10, or 0 for nothing.
+// Whether a weight is in range: 10 where it is not.
 #[tactic(auto, unfolding(crate::specs::Sheet::weight_fault))]
-pub fn weight_fault(weight: u16) -> u32
-    ensures { result ≡ weight_fault weight }
+pub fn check_weight(weight: u16) -> Result<(), Refusal>
+    ensures { fault_of result ≡ weight_fault weight }
 {
-    if weight < 1 {
-        return 10;
+    if weight < 1 || 1000 < weight {
+        return Err(Refusal::Weight);
     }
-    if 1000 < weight {
-        return 10;
-    }
-    0
+    Ok(())
 }
 
-// What is wrong with a stream's ends and weight: 8, 9 or 10, or 0 for nothing.
+// Whether a stream's ends and weight are good: 8, 9 or 10 where one is not.
 #[tactic(auto, unfolding(crate::specs::Sheet::stream_fault))]
-pub fn stream_fault(units: Units, stream: Stream) -> u32
-    ensures { result ≡ stream_fault (held_units units) stream }
+pub fn check_stream(units: &[u16], stream: &Stream) -> Result<(), Refusal>
+    ensures { fault_of result ≡ stream_fault units.now stream.now }
 {
-    let source = stream.source;
-    let receiver = stream.receiver;
-    let weight = stream.weight;
-    if !known_end(units, source) {
-        return 8;
+    if !known_end(units, stream.source) || !known_end(units, stream.receiver) {
+        return Err(Refusal::End);
     }
-    if !known_end(units, receiver) {
-        return 8;
+    if stream.source == 0 && stream.receiver == 0 {
+        return Err(Refusal::Outside);
     }
-    if source != 0 {
-        return weight_fault(weight);
-    }
-    if receiver != 0 {
-        return weight_fault(weight);
-    }
-    9
+    check_weight(stream.weight)
+}
+
+// How many units and streams follow a header.
+#[derive(Clone, Copy)]
+struct Header {
+    units: usize,
+    streams: usize,
 }
 
 // Whether the offsets, the total and the lent length are those of the counts.
@@ -166,217 +162,174 @@ fn laid_out(image: &[u8], units: usize, streams: usize) -> bool
 {
     let streams_at = 16 + 2 * units;
     let total = streams_at + 8 * streams;
-    if words::u16_at(image, 6) as usize != 16 {
-        return false;
-    }
-    if words::u16_at(image, 8) as usize != streams_at {
-        return false;
-    }
-    if words::u16_at(image, 10) as usize != total {
-        return false;
-    }
-    image.len() == total
+    usize::from(u16::at(image, 6)) == 16
+        && usize::from(u16::at(image, 8)) == streams_at
+        && usize::from(u16::at(image, 10)) == total
+        && image.len() == total
 }
 
 // The header of an image: its counts, or the first of 1 to 5.
 #[tactic(auto, unfolding(crate::specs::Image::header_of, crate::specs::Image::header_number))]
-fn read_header(image: &[u8]) -> Header
-    ensures { result ≡ header_of image.now }
+fn read_header(image: &[u8]) -> Result<Header, Refusal>
+    ensures { numbered result ≡ header_of image.now }
 {
     if image.len() < 16 {
-        return Header::Refused(1);
+        return Err(Refusal::Short);
     }
-    if words::u16_at(image, 0) != 1 {
-        return Header::Refused(2);
+    if u16::at(image, 0) != 1 {
+        return Err(Refusal::Edition);
     }
-    if words::u32_at(image, 12) != 0 {
-        return Header::Refused(3);
+    if u32::at(image, 12) != 0 {
+        return Err(Refusal::Spare);
     }
-    let units = words::u16_at(image, 2) as usize;
-    let streams = words::u16_at(image, 4) as usize;
-    if 64 < units {
-        return Header::Refused(4);
+    let units = usize::from(u16::at(image, 2));
+    let streams = usize::from(u16::at(image, 4));
+    if 64 < units || 256 < streams {
+        return Err(Refusal::Counts);
     }
-    if 256 < streams {
-        return Header::Refused(4);
+    if !laid_out(image, units, streams) {
+        return Err(Refusal::Layout);
     }
-    if laid_out(image, units, streams) {
-        return Header::Counts(units, streams);
-    }
-    Header::Refused(5)
+    Ok(Header { units, streams })
 }
 
-// The unit record at `at`, after the unit numbered `last`: refused under 6 where it is out of range or not rising.
-fn read_unit(image: &[u8], at: usize, last: u16) -> UnitRecord
-    requires { at + 2 ≤ length image.now }
-    ensures { result ≡ unit_record_of image.now at last }
+// A record of one of the two tables.
+trait Record: Blank {
+    ghost WIDTH: { ℕ };
+
+    ghost OUT_OF_TURN: { ℕ };
+
+    ghost held: { List ℕ → ℕ → Self };
+
+    ghost number: { Self → ℕ };
+
+    ghost fault: { List ℕ → Self → ℕ };
+
+    // How many bytes it has.
+    const WIDTH: usize;
+
+    // The record whose bytes begin at `at`.
+    fn read(image: &[u8], at: usize) -> Self
+        requires { at + WIDTH ≤ length image.now }
+        ensures { result ≡ held image.now at };
+
+    fn number(self) -> u16
+        ensures { result ≡ number self };
+
+    // The refusal of a number that is out of range or not rising.
+    fn out_of_turn() -> Refusal
+        ensures { number_of result ≡ OUT_OF_TURN };
+
+    // Whether all else is good.
+    fn check(self, units: &[u16]) -> Result<(), Refusal>
+        ensures { fault_of result ≡ fault units.now self };
+}
+
+// A unit record is its number.
+impl Record for u16 {
+    ghost WIDTH = { 2 };
+
+    ghost OUT_OF_TURN = { 6 };
+
+    ghost held = { number_at 2 };
+
+    ghost number = { λ unit. unit };
+
+    ghost fault = { λ units unit. 0 };
+
+    const WIDTH: usize = 2;
+
+    fn read(image: &[u8], at: usize) -> u16 {
+        u16::at(image, at)
+    }
+
+    fn number(self) -> u16 {
+        self
+    }
+
+    fn out_of_turn() -> Refusal {
+        Refusal::UnitNumber
+    }
+
+    fn check(self, _units: &[u16]) -> Result<(), Refusal> {
+        Ok(())
+    }
+}
+
+// A stream record is number, source, receiver, weight.
+impl Record for Stream {
+    ghost WIDTH = { 8 };
+
+    ghost OUT_OF_TURN = { 7 };
+
+    ghost held = { stream_held };
+
+    ghost number = { λ stream. stream.number };
+
+    ghost fault = { stream_fault };
+
+    const WIDTH: usize = 8;
+
+    #[tactic(auto, unfolding(crate::specs::Image::stream_held))]
+    fn read(image: &[u8], at: usize) -> Stream {
+        Stream {
+            number: u16::at(image, at),
+            source: u16::at(image, at + 2),
+            receiver: u16::at(image, at + 4),
+            weight: u16::at(image, at + 6),
+        }
+    }
+
+    fn number(self) -> u16 {
+        self.number
+    }
+
+    fn out_of_turn() -> Refusal {
+        Refusal::StreamNumber
+    }
+
+    fn check(self, units: &[u16]) -> Result<(), Refusal> {
+        check_stream(units, &self)
+    }
+}
+
+// The record at `at`, where its number is in turn after the number `last`.
+fn read_record<R: Record>(image: &[u8], at: usize, last: u16) -> Option<R>
+    requires { at + R.WIDTH ≤ length image.now }
+    ensures { let record_there = R.held image.now at in
+        result ≡ (if in_turn (R.number record_there) last then Some record_there else None) }
 {
-    let number = words::u16_at(image, at);
-    let fault = number_fault(number, last, 6);
-    if fault != 0 {
-        return UnitRecord::Refused(fault);
-    }
-    UnitRecord::Unit(number)
-}
-
-// The number that a unit record is refused with.
-fn unit_refusal(answer: UnitRecord) -> u32
-    ensures { result ≡ unit_number_of answer }
-{
-    match answer {
-        UnitRecord::Unit(_) => 0,
-        UnitRecord::Refused(number) => number,
+    let record = R::read(image, at);
+    if in_turn(record.number(), last) {
+        Some(record)
+    } else {
+        None
     }
 }
 
-// No units.
-fn no_units() -> Units
-    ensures { result ≡ units_of [] }
+// The records of a table in order; reading stops at the first that is refused.
+fn read_table<R: Record, const N: usize>(
+    image: &[u8],
+    start: usize,
+    count: usize,
+    units: &[u16],
+) -> Result<Row<R, N>, Refusal>
+    requires room { count ≤ N }
+    requires inside { start + R.WIDTH * count ≤ length image.now }
+    ensures { let at = λ (i : ℕ). R.held image.now (start + R.WIDTH * i) in
+        numbered result ≡ table_read (fault_at R.number R.OUT_OF_TURN (R.fault units.now) at) at count }
 {
-    Units {
-        count: 0,
-        numbers: [0; 64],
-    }
-}
-
-// What reading the unit table answers: 0 and the units, or the refusal's number and none.
-#[derive(Clone, Copy)]
-struct UnitTable {
-    number: u32,
-    units: Units,
-}
-
-// The units in table order; reading stops at the first record that is refused.
-fn read_units(image: &[u8], units: usize) -> UnitTable
-    requires { (units ≤ 64) × (16 + 2 * units ≤ length image.now) }
-    ensures { result ≡ unit_table_of image.now units }
-{
-    let mut numbers: [u16; 64] = [0; 64];
-    let mut last: u16 = 0;
-    let mut i: usize = 0;
-    while i < units {
-        let answer = read_unit(image, 16 + 2 * i, last);
-        let UnitRecord::Unit(number) = answer else {
-            return UnitTable {
-                number: unit_refusal(answer),
-                units: no_units(),
-            };
+    let mut records = Row::new();
+    let mut last = 0;
+    for i in 0..count {
+        let Some(record) = read_record::<R>(image, start + R::WIDTH * i, last) else {
+            return Err(R::out_of_turn());
         };
-        numbers[i] = number;
-        last = number;
-        i += 1;
+        record.check(units)?;
+        last = record.number();
+        records.push(record);
     }
-    UnitTable {
-        number: 0,
-        units: Units {
-            count: units,
-            numbers,
-        },
-    }
-}
-
-// The stream whose record begins at `at`.
-#[tactic(auto, unfolding(crate::specs::Image::stream_held))]
-fn stream_at(image: &[u8], at: usize) -> Stream
-    requires { at + 8 ≤ length image.now }
-    ensures { result ≡ stream_held image.now at }
-{
-    Stream {
-        number: words::u16_at(image, at),
-        source: words::u16_at(image, at + 2),
-        receiver: words::u16_at(image, at + 4),
-        weight: words::u16_at(image, at + 6),
-    }
-}
-
-// The stream record at `at`, after the stream numbered `last`: tried for 7, 8, 9 and 10.
-fn read_stream(image: &[u8], at: usize, last: u16, units: Units) -> StreamRecord
-    requires { at + 8 ≤ length image.now }
-    ensures { result ≡ stream_record_of image.now at last (held_units units) }
-{
-    let stream = stream_at(image, at);
-    let number = stream.number;
-    let order = number_fault(number, last, 7);
-    if order != 0 {
-        return StreamRecord::Refused(order);
-    }
-    let fault = stream_fault(units, stream);
-    if fault != 0 {
-        return StreamRecord::Refused(fault);
-    }
-    StreamRecord::Held(stream)
-}
-
-// The number that a stream record is refused with.
-fn stream_refusal(answer: StreamRecord) -> u32
-    ensures { result ≡ stream_number_of answer }
-{
-    match answer {
-        StreamRecord::Held(_) => 0,
-        StreamRecord::Refused(number) => number,
-    }
-}
-
-// What stands in a place beyond the streams.
-const NO_STREAM: Stream = Stream {
-    number: 0,
-    source: 0,
-    receiver: 0,
-    weight: 0,
-};
-
-// No streams.
-fn no_streams() -> Streams
-    ensures { result ≡ streams_of [] }
-{
-    Streams {
-        count: 0,
-        records: [NO_STREAM; 256],
-    }
-}
-
-// What reading the stream table answers: 0 and the streams, or the refusal's number and none.
-#[derive(Clone, Copy)]
-struct StreamTable {
-    number: u32,
-    streams: Streams,
-}
-
-// The streams in table order; reading stops at the first record that is refused.
-fn read_streams(image: &[u8], units: Units, count: usize) -> StreamTable
-    requires { (units.count ≤ 64) × (count ≤ 256) × (16 + 2 * units.count + 8 * count ≤ length image.now) }
-    ensures { result ≡ stream_table_of image.now units.count (held_units units) count }
-{
-    let start = 16 + 2 * units.count;
-    let mut records: [Stream; 256] = [NO_STREAM; 256];
-    let mut last: u16 = 0;
-    let mut i: usize = 0;
-    while i < count {
-        let answer = read_stream(image, start + 8 * i, last, units);
-        let StreamRecord::Held(stream) = answer else {
-            return StreamTable {
-                number: stream_refusal(answer),
-                streams: no_streams(),
-            };
-        };
-        records[i] = stream;
-        last = stream.number;
-        i += 1;
-    }
-    StreamTable {
-        number: 0,
-        streams: Streams { count, records },
-    }
-}
-
-// The number that a header is refused with.
-fn header_refusal(answer: Header) -> u32
-    ensures { result ≡ header_number_of answer }
-{
-    match answer {
-        Header::Counts(_, _) => 0,
-        Header::Refused(number) => number,
-    }
+    Ok(records)
 }
 
 // A flowsheet of no units and no streams.
@@ -385,46 +338,18 @@ pub fn empty() -> Flowsheet
     ensures { result ≡ sheet_of [] [] }
 {
     Flowsheet {
-        units: no_units(),
-        streams: no_streams(),
+        units: Row::new(),
+        streams: Row::new(),
     }
 }
 
-// A refusal under that number.
-#[tactic(auto, unfolding(crate::specs::Image::refused_with))]
-fn refused(number: u32) -> Reading
-    ensures { result ≡ refused_with number }
-{
-    Reading {
-        number,
-        sheet: empty(),
-    }
-}
-
-// Reads an image: 0 and the flowsheet, or the first of the refusals 1 to 10 that the table gives. Every row of bytes is
+// Reads an image: the flowsheet, or the first of the refusals 1 to 10 that the table gives. Every row of bytes is
 // answered, and the image stays as it stood.
-pub fn read(image: &[u8]) -> Reading
-    ensures { result ≡ reading_of image.now }
+pub fn read(image: &[u8]) -> Result<Flowsheet, Refusal>
+    ensures { reading result ≡ reading_of image.now }
 {
-    let answer = read_header(image);
-    let Header::Counts(units, streams) = answer else {
-        return refused(header_refusal(answer));
-    };
-    let unit_table = read_units(image, units);
-    if unit_table.number != 0 {
-        return refused(unit_table.number);
-    }
-    let held = unit_table.units;
-    let stream_table = read_streams(image, held, streams);
-    if stream_table.number != 0 {
-        return refused(stream_table.number);
-    }
-    let carried = stream_table.streams;
-    Reading {
-        number: 0,
-        sheet: Flowsheet {
-            units: held,
-            streams: carried,
-        },
-    }
+    let header = read_header(image)?;
+    let units: Units = read_table(image, 16, header.units, &[])?;
+    let streams: Streams = read_table(image, 16 + 2 * header.units, header.streams, units.items())?;
+    Ok(Flowsheet { units, streams })
 }

@@ -1,58 +1,60 @@
 -- The header, the unit table and the stream table in turn; what they tell together is in proofs/Parts.antt.
-use Rattle.std.proofs.Common.{List, ℕ, sym, ap, ◌∙◌}
-use Rattle.flowsheet.specs.Answers.{header_number_of}
-use Rattle.flowsheet.specs.Image.{unit_table_of, stream_table_of, refused_with}
-use Rattle.flowsheet.specs.Sheet.{held_units}
-use Rattle.flowsheet.proofs.Parts.{counts_read, refused_header, units_fit, streams_fit, refused_units, count_fits, refused_streams, all_read}
+use Rattle.std.proofs.Common.{List, ℕ, ap, ◌∙◌, arith, lit<}
+use Rattle.std.proofs.lemmas.Result.{err_from_is_err_and}
+use Rattle.flowsheet.specs.Image.{unit_at, stream_at, stream_table_of}
+use Rattle.flowsheet.proofs.Parts.{refused_header, units_fit, refused_units, streams_fit, refused_streams, all_read}
+use Rattle.flowsheet.proofs.Records.{unit_table, stream_table}
 use Rattle.flowsheet.proofs.read.Goals as goal
 
-pub returns-in_default : goal.returns-in_default
-returns-in_default c =
-    let l : List ℕ = c.args.image.now in
-    let h = c.read_header-answer.ensures in
-    c.refused.ensures
-    ∙ ap refused_with (c.header_refusal.ensures ∙ ap header_number_of h)
-    ∙ refused_header l c.in_default.field-0 (sym h ∙ c.in_default.is)
+pub returns-in_err-header : goal.returns-in_err-header
+returns-in_err-header c =
+    let p = err_from_is_err_and c.from_residual.result c.from_residual.ensures.1 in
+    rw (p.1, p.2) (refused_header c.args.image.now _ c.in_err-header.ensures)
 
-pub read_units-unit_table-requires : goal.read_units-unit_table-requires
-read_units-unit_table-requires c =
-    let l : List ℕ = c.args.image.now in
-    let counts = counts_read l c.in-Counts.units c.in-Counts.streams (sym c.read_header-answer.ensures ∙ c.in-Counts.is) in
-    rw counts.1 (units_fit l counts.0)
+pub read_table-requires : goal.read_table-requires
+read_table-requires c = (lit< tt, units_fit c.args.image.now c.in_ok-header.header c.in_ok-header.ensures)
 
-pub returns-then-unit_table-ne0 : goal.returns-then-unit_table-ne0
-returns-then-unit_table-ne0 c =
+pub returns-in_err-units : goal.returns-in_err-units
+unfolding unit_at
+returns-in_err-units c =
     let l : List ℕ = c.args.image.now in
-    let counts = counts_read l c.in-Counts.units c.in-Counts.streams (sym c.read_header-answer.ensures ∙ c.in-Counts.is) in
-    let t = c.read_units-unit_table in
-    c.refused-then-unit_table-ne0.ensures
-    ∙ refused_units l counts.0 t.result (t.ensures ∙ ap (unit_table_of l) counts.1) c.if-unit_table-ne0.true
+    let h = c.in_ok-header in
+    let p = err_from_is_err_and c.from_residual-in_err-units.result c.from_residual-in_err-units.ensures.1 in
+    rw (p.1, p.2) (refused_units l h.header h.ensures _ (c.in_err-units.ensures ∙ unit_table l h.header.units))
 
-pub read_streams-stream_table-requires : goal.read_streams-stream_table-requires
-read_streams-stream_table-requires c =
-    let l : List ℕ = c.args.image.now in
-    let counts = counts_read l c.in-Counts.units c.in-Counts.streams (sym c.read_header-answer.ensures ∙ c.in-Counts.is) in
-    let t = c.read_units-unit_table in
-    let fits = count_fits l counts.0 t.result (t.ensures ∙ ap (unit_table_of l) counts.1) c.if-unit_table-ne0.false in
-    rw counts.2 (fits.0, (streams_fit l counts.0).0, fits.1)
+pub overflow_mul-header : goal.overflow_mul-header
+overflow_mul-header c =
+    let fit = units_fit c.args.image.now c.in_ok-header.header c.in_ok-header.ensures in
+    omega arith
 
-pub returns-then-stream_table-ne0 : goal.returns-then-stream_table-ne0
-returns-then-stream_table-ne0 c =
+pub overflow_add-header : goal.overflow_add-header
+overflow_add-header c =
+    let fit = units_fit c.args.image.now c.in_ok-header.header c.in_ok-header.ensures in
+    omega arith
+
+pub read_table-requires-2 : goal.read_table-requires-2
+read_table-requires-2 c = (lit< tt, streams_fit c.args.image.now c.in_ok-header.header c.in_ok-header.ensures)
+
+pub returns-in_err-streams : goal.returns-in_err-streams
+unfolding unit_at stream_at
+returns-in_err-streams c =
     let l : List ℕ = c.args.image.now in
-    let counts = counts_read l c.in-Counts.units c.in-Counts.streams (sym c.read_header-answer.ensures ∙ c.in-Counts.is) in
-    let t = c.read_units-unit_table in
-    let z = c.read_streams-stream_table in
-    c.refused-then-stream_table-ne0.ensures
-    ∙ refused_streams l counts.0 t.result (t.ensures ∙ ap (unit_table_of l) counts.1) c.if-unit_table-ne0.false z.result
-    (z.ensures ∙ ap (stream_table_of l t.result.units.count (held_units t.result.units)) counts.2)
-    c.if-stream_table-ne0.true
+    let h = c.in_ok-header in
+    let us = c.in_ok-units in
+    let p = err_from_is_err_and c.from_residual-in_err-streams.result c.from_residual-in_err-streams.ensures.1 in
+    let u = us.ensures ∙ unit_table l h.header.units in
+    let same = ap (λ (units : List ℕ). stream_table_of l h.header.units units h.header.streams) c.items.ensures.items in
+    rw (p.1, p.2)
+    (refused_streams l h.header h.ensures us.units u _
+    (c.in_err-streams.ensures ∙ stream_table l h.header.units c.items.result.now h.header.streams ∙ same))
 
 pub returns : goal.returns
+unfolding unit_at stream_at
 returns c =
     let l : List ℕ = c.args.image.now in
-    let counts = counts_read l c.in-Counts.units c.in-Counts.streams (sym c.read_header-answer.ensures ∙ c.in-Counts.is) in
-    let t = c.read_units-unit_table in
-    let z = c.read_streams-stream_table in
-    all_read l counts.0 t.result (t.ensures ∙ ap (unit_table_of l) counts.1) c.if-unit_table-ne0.false z.result
-    (z.ensures ∙ ap (stream_table_of l t.result.units.count (held_units t.result.units)) counts.2)
-    c.if-stream_table-ne0.false
+    let h = c.in_ok-header in
+    let us = c.in_ok-units in
+    let u = us.ensures ∙ unit_table l h.header.units in
+    let same = ap (λ (units : List ℕ). stream_table_of l h.header.units units h.header.streams) c.items.ensures.items in
+    all_read l h.header h.ensures us.units u c.in_ok-streams.streams
+    (c.in_ok-streams.ensures ∙ stream_table l h.header.units c.items.result.now h.header.streams ∙ same)
