@@ -25,10 +25,6 @@ pub and_right : (p q : Bool) → (p && q) ≡ true → q ≡ true
 and_right true q h = h
 and_right false q h = false_true h
 
-pub and_true : (p : Bool) → (p && true) ≡ p
-and_true true = refl
-and_true false = refl
-
 pub or_left : (p q : Bool) → p ≡ true → (p || q) ≡ true
 or_left true q h = refl
 or_left false q h = false_true h

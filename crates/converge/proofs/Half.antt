@@ -1,5 +1,5 @@
 -- A row that is being rewritten from the front: below i it is done, and from i on it is as it was. Assumes nothing.
-use mathlib.Core.Path.{◌≡◌, refl, sym, ◌∙◌, subst}
+use mathlib.Core.Path.{◌≡◌, sym, ◌∙◌, subst}
 use mathlib.Core.List.{List}
 use Prim.Native.Nat.{ℕ, ◌+◌, ◌≤◌, ◌<◌}
 use native.Mathlib.Nat.{le_of_lt, lt_of_lt_of_le, ne_of_lt, ne_of_gt}
@@ -7,7 +7,7 @@ use native.Mathlib.Numerals.{lt-add-one}
 use native.Mathlib.Omega.{arith}
 use lib.ListN.{length, get_or, set, length-set}
 use lib.Seq.{get_or-set_same, get_or-set_other, ext_get_or}
-use borrow.Author.Count.{below_none, below_more}
+use borrow.Author.Count.{below_more}
 
 pub record Half {A : Type 0} (d : A) (old new goal : List A) (i : ℕ) : Type 0 where
   pub same : length new ≡ length old
@@ -15,9 +15,6 @@ pub record Half {A : Type 0} (d : A) (old new goal : List A) (i : ℕ) : Type 0 
   pub above : (k : ℕ) → i ≤ k → get_or new k d ≡ get_or old k d
 
 module _ {A : Type 0} {d : A} {old goal : List A} where
-  pub half_none : Half d old old goal 0
-  half_none = record { same = refl; below = below_none (λ (k : ℕ). get_or old k d ≡ get_or goal k d); above = λ k h. refl }
-
   pub half_more : {new : List A} {i : ℕ} → Half d old new goal i → (v : A) → i < length old → v ≡ get_or goal i d → Half d old (set new i v) goal (i + 1)
   half_more {new} {i} h v l e = record {
     same = length-set new i v ∙ h.same;

@@ -1,20 +1,21 @@
 -- What is lent, after a step: on Moved the next values, this x and y and one more; at every other answer all as it stood. Assumes nothing.
 use mathlib.Core.Path.{◌≡◌, refl, sym, ◌∙◌, ap, subst}
-use mathlib.Core.Bool.{Bool, true, false}
+use mathlib.Core.Bool.{Bool, true, false, cond}
 use mathlib.Core.List.{List}
 use Prim.Native.Nat.{ℕ, ◌+◌, ◌<◌}
 use native.Mathlib.Omega.{arith}
 use lib.Dec.{eqb}
 use lib.ListN.{length}
 use lib.Ieee.{Float}
-use borrow.Author.Tests.{eqb-true, eqb-false, eq-eqb, ne_eqb}
-use Rattle.converge.specs.Answer.{Answer, moved, refused, answer_of}
-use Rattle.converge.specs.Row.{Stepped, kept, after, stepped, nexts_of, records_of, verdict_of}
-use Rattle.converge.specs.Promise.{Rows, RowStep, rows_of, rows_stepped}
+use borrow.Author.Tests.{eqb-false, eq-eqb, ne_eqb}
+use Rattle.converge.specs.Answer.{Answer, number_of, refused, answer_of}
+use Rattle.converge.specs.Row.{Stepped, kept, after, stepped, nexts_of, records_of, refusal_of, judged, verdict_of}
+use Rattle.converge.specs.Promise.{HistoryStep, rows_of, rows_stepped}
 use Rattle.converge.specs.declared.History.{History}
+use Rattle.converge.specs.declared.Refusal.{Refusal}
+use Rattle.converge.specs.declared.Refusal.TheVariants.{Rows, Tolerance, Limit, Values, Records}
 use Rattle.converge.specs.declared.Verdict.{Verdict}
-use Rattle.converge.specs.declared.Verdict.TheVariants.{Moved}
-use Rattle.converge.proofs.Rows.{records_length, records_x, records_y}
+use Rattle.converge.specs.declared.Verdict.TheVariants.{Settled, Spent, Strayed, Moved, Refused}
 use Rattle.converge.proofs.Verdicts.{moved_accepted}
 
 module _ (x y : List Float) (past : List History) (count method : ℕ) (a : Answer) where
@@ -60,55 +61,63 @@ module _ (x y px py : List Float) (count method : ℕ) (tolerance : Float) (limi
   unfolding rows_stepped
   rows_unlevel n = rw (ne_eqb (length px) (length py) n)
 
-  pub rows_answer : length px ≡ length py
-      → (rows_stepped x y px py count method tolerance limit).answer ≡ verdict_of x y (records_of px py) count method tolerance limit
-  rows_answer e = ap (λ (s : Rows). s.answer) (rows_level e) ∙ stepped_answer x y (records_of px py) count method tolerance limit
+-- ---- what the step of a row leaves
 
-  -- at an answer other than Moved
-  pub rows_kept : (r : Verdict) → answer_of r ≡ (rows_stepped x y px py count method tolerance limit).answer → eqb (answer_of r).number 4 ≡ false
-      → RowStep (rows_stepped x y px py count method tolerance limit) r x px py count
-  rows_kept r e h = go (eqb (length px) (length py)) refl
-    where
-      go : (b : Bool) → eqb (length px) (length py) ≡ b → RowStep (rows_stepped x y px py count method tolerance limit) r x px py count
-      go true q =
-          let l : length px ≡ length py = eqb-true _ _ q in
-          let v = verdict_of x y (records_of px py) count method tolerance limit in
-          let f : answer_of r ≡ v = e ∙ rows_answer l in
-          let n : v.number ≡ 4 → ⊥ = eqb-false _ _ (ap (λ (a : Answer). eqb a.number 4) (sym f) ∙ h) in
-          let k = rows_level l ∙ ap rows_of (stepped_kept x y (records_of px py) count method tolerance limit n) in
-          subst (λ (s : Rows). RowStep s r x px py count) (sym k)
-          (record { verdict = f; x = refl; past_x = sym (records_x px py l); past_y = sym (records_y px py l); count = refl })
-      go false q =
-          let u = rows_unlevel (eqb-false _ _ q) in
-          subst (λ (s : Rows). RowStep s r x px py count) (sym u)
-          (record { verdict = e ∙ ap (λ (s : Rows). s.answer) u; x = refl; past_x = refl; past_y = refl; count = refl })
+pub not_moved : (r : Verdict) → ((d : Float) → r ≡ Moved d → ⊥) → eqb (answer_of r).number 4 ≡ false
+not_moved (Settled d) h = refl
+not_moved (Spent d) h = refl
+not_moved (Strayed d) h = refl
+not_moved (Moved d) h = absurd (h d refl)
+not_moved (Refused r) h = refl
 
-  -- at Moved the rows are of one length, and the count is below the limit
-  pub rows_moved : (d : Float) → answer_of (Moved d) ≡ (rows_stepped x y px py count method tolerance limit).answer
-      → (length x ≡ length y) × (length x ≡ length px) × (length x ≡ length py) × (count < 500)
-      × RowStep (rows_stepped x y px py count method tolerance limit) (Moved d) (nexts_of x y (records_of px py) count method) x y (count + 1)
-  rows_moved d e = go (eqb (length px) (length py)) refl
+module _ (x y : List Float) (past : List History) (count method : ℕ) (tolerance : Float) (limit : ℕ) where
+  verdict_refused : (r : Refusal) → refusal_of x y past count method tolerance limit ≡ number_of r
+      → answer_of (Refused r) ≡ verdict_of x y past count method tolerance limit
+  unfolding verdict_of
+  verdict_refused r e = rw e (go r)
     where
-      go : (b : Bool) → eqb (length px) (length py) ≡ b
-          → (length x ≡ length y) × (length x ≡ length px) × (length x ≡ length py) × (count < 500)
-          × RowStep (rows_stepped x y px py count method tolerance limit) (Moved d) (nexts_of x y (records_of px py) count method) x y (count + 1)
-      go true q =
-          let l : length px ≡ length py = eqb-true _ _ q in
-          let v = verdict_of x y (records_of px py) count method tolerance limit in
-          let f : moved d ≡ v = e ∙ rows_answer l in
-          let n : v.number ≡ 4 = ap (λ (a : Answer). a.number) (sym f) in
-          let m = moved_accepted x y (records_of px py) count method tolerance limit n in
-          let a = m.0 in
-          let r = records_length px py l in
-          let k = rows_level l ∙ ap rows_of (stepped-moved x y (records_of px py) count method tolerance limit n) in (
-            a.level,
-            omega (arith, a.recorded),
-            omega (arith, a.recorded),
-            omega (arith, m.1, a.most),
-            subst (λ (s : Rows). RowStep s (Moved d) (nexts_of x y (records_of px py) count method) x y (count + 1)) (sym k)
-                (record { verdict = f; x = refl; past_x = sym (records_x x y a.level); past_y = sym (records_y x y a.level); count = refl }),
-          )
-      go false q =
-          let u = e ∙ ap (λ (s : Rows). s.answer) (rows_unlevel (eqb-false _ _ q)) in
-          let z : ◌≡◌ {A = ℕ} 4 0 = ap (λ (a : Answer). a.number) u in
-          absurd (omega arith)
+      go : (r : Refusal) → refused (number_of r) ≡ cond (eqb (number_of r) 0) (judged x y past count method tolerance limit) (refused (number_of r))
+      go Rows = refl
+      go Tolerance = refl
+      go Limit = refl
+      go Values = refl
+      go Records = refl
+
+  verdict_judged : refusal_of x y past count method tolerance limit ≡ 0
+      → verdict_of x y past count method tolerance limit ≡ judged x y past count method tolerance limit
+  unfolding verdict_of
+  verdict_judged e = rw e
+
+  kept_step : (r : Verdict) → answer_of r ≡ verdict_of x y past count method tolerance limit → eqb (answer_of r).number 4 ≡ false
+      → HistoryStep (stepped x y past count method tolerance limit) r x past count
+  kept_step r e h =
+      let n : (verdict_of x y past count method tolerance limit).number ≡ 4 → ⊥ = eqb-false _ _ (ap (λ (a : Answer). eqb a.number 4) (sym e) ∙ h) in
+      subst (λ (s : Stepped). HistoryStep s r x past count) (sym (stepped_kept x y past count method tolerance limit n))
+      (record { verdict = e; x = refl; past = refl; count = refl })
+
+  pub history_refused : (r : Refusal) → refusal_of x y past count method tolerance limit ≡ number_of r
+      → HistoryStep (stepped x y past count method tolerance limit) (Refused r) x past count
+  history_refused r e = kept_step (Refused r) (verdict_refused r e) refl
+
+  -- a step that isn't refused, judged by the method of that number
+  module _ (m : ℕ) (known : m ≡ method) (accepted : refusal_of x y past count method tolerance limit ≡ 0) where
+    judged_verdict : (r : Verdict) → answer_of r ≡ judged x y past count m tolerance limit → answer_of r ≡ verdict_of x y past count method tolerance limit
+    judged_verdict r e = e ∙ ap (λ (n : ℕ). judged x y past count n tolerance limit) known ∙ sym (verdict_judged accepted)
+
+    -- at a verdict other than Moved
+    pub history_kept : (r : Verdict) → answer_of r ≡ judged x y past count m tolerance limit → eqb (answer_of r).number 4 ≡ false
+        → HistoryStep (stepped x y past count method tolerance limit) r x past count
+    history_kept r e h = kept_step r (judged_verdict r e) h
+
+    -- at Moved the count is below the limit
+    pub history_moved : (d : Float) → answer_of (Moved d) ≡ judged x y past count m tolerance limit
+        → (count < 500) × HistoryStep (stepped x y past count method tolerance limit) (Moved d) (nexts_of x y past count m) (records_of x y) (count + 1)
+    history_moved d e =
+        let f = judged_verdict (Moved d) e in
+        let n : (verdict_of x y past count method tolerance limit).number ≡ 4 = ap (λ (a : Answer). a.number) (sym f) in
+        let b = moved_accepted x y past count method tolerance limit n in (
+          omega (arith, b.1, b.0.most),
+          subst (λ (s : Stepped). HistoryStep s (Moved d) (nexts_of x y past count m) (records_of x y) (count + 1))
+              (sym (stepped-moved x y past count method tolerance limit n))
+              (record { verdict = f; x = ap (λ (n : ℕ). nexts_of x y past count n) known; past = refl; count = refl }),
+        )

@@ -1,6 +1,6 @@
 pub mod Flags
 pub mod Sizes
-pub mod Left
+pub mod Chains
 pub mod Half
 pub mod Rows
 pub mod Says

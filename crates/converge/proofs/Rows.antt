@@ -8,7 +8,10 @@ use lib.Ieee.{Float, nan}
 use Rattle.converge.specs.Value.{next_of}
 use Rattle.converge.specs.Row.{records_of, nexts_of}
 use Rattle.converge.specs.declared.History.{History}
-use Rattle.converge.proofs.Left.{record_at}
+
+-- What stands at a place beyond a row of records.
+abbrev pub blank : History
+blank = record { x = nan; y = nan }
 
 pub records_length : (x y : List Float) → length x ≡ length y → length (records_of x y) ≡ length x
 unfolding records_of
@@ -37,14 +40,20 @@ nexts_length (a ∷ x) [] past count method e f = absurd (omega arith)
 nexts_length (a ∷ x) (b ∷ y) [] count method e f = absurd (omega arith)
 nexts_length (a ∷ x) (b ∷ y) (p ∷ past) count method e f = ap suc (nexts_length x y past count method (omega arith) (omega arith))
 
--- the next value at place k, with the records in two rows
-pub nexts_at : (x y px py : List Float) (k count method : ℕ) → k < length x → k < length y → k < length px → k < length py
-    → get_or (nexts_of x y (records_of px py) count method) k nan ≡ next_of (get_or x k nan) (get_or y k nan) (record_at px py k) count method
-unfolding nexts_of records_of
-nexts_at [] y px py k count method hx hy hp hq = absurd (omega arith)
-nexts_at (a ∷ x) [] px py k count method hx hy hp hq = absurd (omega arith)
-nexts_at (a ∷ x) (b ∷ y) [] py k count method hx hy hp hq = absurd (omega arith)
-nexts_at (a ∷ x) (b ∷ y) (p ∷ px) [] k count method hx hy hp hq = absurd (omega arith)
-nexts_at (a ∷ x) (b ∷ y) (p ∷ px) (q ∷ py) zero count method hx hy hp hq = refl
-nexts_at (a ∷ x) (b ∷ y) (p ∷ px) (q ∷ py) (suc k) count method hx hy hp hq =
-    nexts_at x y px py k count method (omega arith) (omega arith) (omega arith) (omega arith)
+-- the record and the next value at place k
+pub records_at : (x y : List Float) (k : ℕ) → k < length x → k < length y
+    → get_or (records_of x y) k blank ≡ record { x = get_or x k nan; y = get_or y k nan }
+unfolding records_of
+records_at [] y k hx hy = absurd (omega arith)
+records_at (a ∷ x) [] k hx hy = absurd (omega arith)
+records_at (a ∷ x) (b ∷ y) zero hx hy = refl
+records_at (a ∷ x) (b ∷ y) (suc k) hx hy = records_at x y k (omega arith) (omega arith)
+
+pub nexts_at : (x y : List Float) (past : List History) (k count method : ℕ) → k < length x → k < length y → k < length past
+    → get_or (nexts_of x y past count method) k nan ≡ next_of (get_or x k nan) (get_or y k nan) (get_or past k blank) count method
+unfolding nexts_of
+nexts_at [] y past k count method hx hy hp = absurd (omega arith)
+nexts_at (a ∷ x) [] past k count method hx hy hp = absurd (omega arith)
+nexts_at (a ∷ x) (b ∷ y) [] k count method hx hy hp = absurd (omega arith)
+nexts_at (a ∷ x) (b ∷ y) (q ∷ past) zero count method hx hy hp = refl
+nexts_at (a ∷ x) (b ∷ y) (q ∷ past) (suc k) count method hx hy hp = nexts_at x y past k count method (omega arith) (omega arith) (omega arith)

@@ -3,4 +3,3 @@ pub mod Answer
 pub mod Value
 pub mod Row
 pub mod Promise
-pub mod Pasts

@@ -17,10 +17,6 @@ pub record ValueStep (s : Stepped) (r : Step) : Type 0 where
   pub past : r.past ∷ [] ≡ s.past
   pub count : r.count ≡ s.count
 
--- A verdict beside what it leaves.
-abbrev pub stayed : Verdict → Float → History → ℕ → Step
-stayed verdict x past count = record { verdict = verdict; x = x; past = past; count = count }
-
 -- A step's answer, and all that is lent as it stands after it, with the records as two rows, of x and of y.
 pub record Rows : Type 0 where
   pub answer : Answer

@@ -1,37 +1,97 @@
 // Convergence steps for one torn stream of 1 to 16 values: successive substitution and bounded Wegstein, in doubles,
-// with one rounding for each operation in the order written. First one value, then a row with its records in two rows, last a
-// row with its records lent as a row of structs.
+// with one rounding for each operation in the order written. The step is that of a row with its records lent as a row of
+// structs; one value, and records lent as two plain rows, step by it.
 #![tactic(auto)]
 
-ghost use Rattle.std.specs.Prelude.{◌≡◌, true, [], ◌∷◌, ◌<◌, ◌≤◌, ◌+◌, length, take};
+ghost use Rattle.std.specs.Prelude.{◌≡◌, true, [], ◌∷◌, ◌<◌, cond, map, length, find};
 ghost use Rattle.std.specs.Float.Ieee.{le};
+ghost use Rattle.converge.specs.declared.History.{History};
 ghost use Rattle.converge.specs.Doubles.{zero64, lowest, larger, mag, usable, beyond};
-ghost use Rattle.converge.specs.Answer.{answer_of, moved};
-ghost use Rattle.converge.specs.Promise.{ValueStep, RowStep, HistoryStep, stayed, value_stepped, rows_stepped};
-ghost use Rattle.converge.specs.Pasts.{no_pasts, with_past, past_at, readable_of, rewritten_of, pasts_of, written_of, PastsStep};
-ghost use Rattle.converge.specs.Row.{records_of, largest_of, all_close, nexts_of, stray_or, usable_row, usable_records, rows_wrong, tolerance_wrong, limit_wrong, records_wrong, refusal_of, judged, after, stepped};
+ghost use Rattle.converge.specs.Answer.{answer_of, number_of, method_number, Decodes, Accepts};
+ghost use Rattle.converge.specs.Promise.{ValueStep, RowStep, HistoryStep, value_stepped, rows_stepped};
+ghost use Rattle.converge.specs.Row.{records_of, largest_of, all_close, nexts_of, usable_row, usable_records, rows_wrong, tolerance_wrong, limit_wrong, records_wrong, refusal_of, judged, stepped};
 ghost use Rattle.converge.specs.Value.{gap_of, close, factor_of, next_of, usable_record};
 
 // The x and y of a value's last accepted move.
+#[derive(Clone, Copy, Debug, PartialEq)]
 #[repr(C)]
-#[derive(Clone, Copy)]
 pub struct History {
     pub x: f64,
     pub y: f64,
 }
 
+// How a row is stepped, as the host gives it: any numbers.
+#[derive(Clone, Copy, Debug, PartialEq)]
+pub struct Terms {
+    pub method: u32,
+    pub tolerance: f64,
+    pub limit: u32,
+}
+
+// Why a step is refused.
+#[derive(Clone, Copy, Debug, PartialEq, Eq)]
+pub enum Refusal {
+    // Rows of unequal length, empty or over 16.
+    Rows,
+    // Tolerance not from 1e-12 to 0.1.
+    Tolerance,
+    // Limit not 1 to 500, or method unknown.
+    Limit,
+    // An x or y not finite or beyond 1e12 in size.
+    Values,
+    // Count over limit, or at count over 0 a record value not finite or beyond 1e12.
+    Records,
+}
+
+// The number of a refusal, 30 to 34.
+impl From<Refusal> for u32 {
+    ghost from_gives = { λ r n. n ≡ number_of r };
+
+    fn from(refusal: Refusal) -> u32 {
+        match refusal {
+            Refusal::Rows => 30,
+            Refusal::Tolerance => 31,
+            Refusal::Limit => 32,
+            Refusal::Values => 33,
+            Refusal::Records => 34,
+        }
+    }
+}
+
+// How the next value is worked out.
+#[derive(Clone, Copy, PartialEq, Eq)]
+enum Method {
+    Substitution,
+    Wegstein,
+}
+
+impl TryFrom<u32> for Method {
+    type Error = Refusal;
+
+    ghost try_from_gives = { Decodes };
+
+    fn try_from(number: u32) -> Result<Method, Refusal> {
+        match number {
+            1 => Ok(Method::Substitution),
+            2 => Ok(Method::Wegstein),
+            _ => Err(Refusal::Limit),
+        }
+    }
+}
+
 // What a step answers. Settled, Spent and Moved carry the largest |y - x|, Strayed the first next value beyond 1e12.
-#[derive(Clone, Copy)]
+// One enum of five cases and no `Result`: by a rule of the project a refusal is a case of the verdict.
+#[derive(Clone, Copy, Debug, PartialEq)]
 pub enum Verdict {
     Settled(f64),
     Spent(f64),
     Strayed(f64),
     Moved(f64),
-    Refused(u32),
+    Refused(Refusal),
 }
 
 // The verdict for one value, with its x, record and count as they stand after it.
-#[derive(Clone, Copy)]
+#[derive(Clone, Copy, Debug, PartialEq)]
 pub struct Step {
     pub verdict: Verdict,
     pub x: f64,
@@ -39,37 +99,55 @@ pub struct Step {
     pub count: u16,
 }
 
-// |v|: v with its sign bit cleared, of -0.0 too.
-#[tactic(auto, using(crate::proofs::Sizes::mag_below, crate::proofs::Sizes::mag_zero, crate::proofs::Sizes::mag_above))]
-fn size(v: f64) -> f64
-    ensures { result ≡ mag v }
-{
-    if v < 0.0 {
-        return -v;
-    }
-    if v == 0.0 {
-        return 0.0;
-    }
-    v
-}
-
 // Whether v is finite and not beyond 1e12 in size.
-#[tactic(auto, unfolding(crate::specs::Doubles::usable))]
+#[tactic(auto, using(crate::proofs::Sizes::mag_is), unfolding(crate::specs::Doubles::usable))]
 fn fit(v: f64) -> bool
     ensures { result ≡ usable v }
 {
-    size(v) <= 1e12
+    v.abs() <= 1e12
+}
+
+// Whether the size of v is beyond 1e12.
+#[tactic(auto, using(crate::proofs::Sizes::mag_is), unfolding(crate::specs::Doubles::beyond))]
+fn is_beyond(v: f64) -> bool
+    ensures { result ≡ beyond v }
+{
+    v.abs() > 1e12
+}
+
+// Whether both values of a record are finite and not beyond 1e12 in size.
+#[tactic(auto, unfolding(crate::specs::Value::usable_record))]
+fn fit_record(past: History) -> bool
+    ensures { result ≡ usable_record past }
+{
+    fit(past.x) && fit(past.y)
+}
+
+// The larger of two. (`f64::max` would pass over what is no number.)
+fn larger_of(a: f64, b: f64) -> f64
+    ensures { result ≡ larger a b }
+{
+    if a < b { b } else { a }
 }
 
 // |y - x|
-#[tactic(auto, unfolding(crate::specs::Value::gap_of))]
+#[tactic(auto, using(crate::proofs::Sizes::mag_is), unfolding(crate::specs::Value::gap_of))]
 fn gap(x: f64, y: f64) -> f64
     ensures { result ≡ gap_of x y }
 {
-    size(y - x)
+    (y - x).abs()
 }
 
-// The Wegstein factor, from -5 to 0: 0 where d is zero, and nothing is divided there.
+// Whether |y - x| is at most the tolerance times the larger of |x| and 1.
+#[tactic(auto, using(crate::proofs::Sizes::mag_is), unfolding(crate::specs::Value::close))]
+fn is_close(x: f64, y: f64, tolerance: f64) -> bool
+    ensures { result ≡ close x y tolerance }
+{
+    gap(x, y) <= tolerance * larger_of(x.abs(), 1.0)
+}
+
+// The Wegstein factor, from -5 to 0: 0 where d is zero, and nothing is divided there. (`f64::clamp` would hand on a
+// quotient that is no number.)
 #[tactic(auto, using(crate::proofs::Sizes::lowest_le, crate::proofs::Sizes::ends), unfolding(crate::specs::Value::factor_of))]
 fn factor(x: f64, y: f64, past: History) -> f64
     ensures exact { result ≡ factor_of x y past }
@@ -90,13 +168,10 @@ fn factor(x: f64, y: f64, past: History) -> f64
 
 // The next value: y by substitution and at count 0; by Wegstein (q * x) + ((1 - q) * y), or y where q is zero.
 #[tactic(auto, unfolding(crate::specs::Value::next_of))]
-fn next_value(x: f64, y: f64, past: History, count: u16, method: u32) -> f64
-    ensures { result ≡ next_of x y past count method }
+fn next_value(x: f64, y: f64, past: History, count: u16, method: Method) -> f64
+    ensures { result ≡ next_of x y past count (method_number method) }
 {
-    if method == 1 {
-        return y;
-    }
-    if count == 0 {
+    if method == Method::Substitution || count == 0 {
         return y;
     }
     let q = factor(x, y, past);
@@ -106,53 +181,12 @@ fn next_value(x: f64, y: f64, past: History, count: u16, method: u32) -> f64
     (q * x) + ((1.0 - q) * y)
 }
 
-// Whether |y - x| is at most the tolerance times the larger of |x| and 1.
-#[tactic(auto, unfolding(crate::specs::Value::close))]
-fn is_close(x: f64, y: f64, tolerance: f64) -> bool
-    ensures { result ≡ close x y tolerance }
-{
-    let d = gap(x, y);
-    let m = size(x);
-    if m < 1.0 {
-        return d <= tolerance * 1.0;
-    }
-    d <= tolerance * m
-}
-
-// Whether both values of a record are finite and not beyond 1e12 in size.
-#[tactic(auto, unfolding(crate::specs::Value::usable_record))]
-fn fit_record(past: History) -> bool
-    ensures { result ≡ usable_record past }
-{
-    if fit(past.x) {
-        return fit(past.y);
-    }
-    false
-}
-
-// Whether the size of v is beyond 1e12.
-#[tactic(auto, unfolding(crate::specs::Doubles::beyond))]
-fn is_beyond(v: f64) -> bool
-    ensures { result ≡ beyond v }
-{
-    size(v) > 1e12
-}
-
 // 30: whether the lengths of the rows differ, or are 0 or over 16.
 #[tactic(auto, unfolding(crate::specs::Row::rows_wrong))]
 fn rows_wrong(x: usize, y: usize, past: usize) -> bool
     ensures { result ≡ rows_wrong x y past }
 {
-    if x != y {
-        return true;
-    }
-    if x != past {
-        return true;
-    }
-    if x == 0 {
-        return true;
-    }
-    16 < x
+    x != y || x != past || x == 0 || 16 < x
 }
 
 // 31: whether the tolerance is not from 1e-12 to 0.1.
@@ -160,549 +194,226 @@ fn rows_wrong(x: usize, y: usize, past: usize) -> bool
 fn tolerance_wrong(tolerance: f64) -> bool
     ensures { result ≡ tolerance_wrong tolerance }
 {
-    if 1e-12 <= tolerance {
-        if tolerance <= 0.1 {
-            return false;
-        }
-    }
-    true
+    !(1e-12 <= tolerance && tolerance <= 0.1)
 }
 
-// 32: whether the limit is not 1 to 500, or the method unknown.
+// 32: the method, where it is known and the limit is 1 to 500.
 #[tactic(auto, unfolding(crate::specs::Row::limit_wrong))]
-fn limit_wrong(limit: u32, method: u32) -> bool
-    ensures { result ≡ limit_wrong limit method }
+fn method_of(terms: Terms) -> Result<Method, Refusal>
+    ensures { Accepts (cond (limit_wrong terms.limit terms.method) 32 0) terms.method result }
 {
-    if limit == 0 {
-        return true;
+    if terms.limit == 0 || 500 < terms.limit {
+        return Err(Refusal::Limit);
     }
-    if 500 < limit {
-        return true;
-    }
-    if method == 1 {
-        return false;
-    }
-    method != 2
+    Method::try_from(terms.method)
 }
 
-// 34, of one value: whether the count is over the limit, or is over 0 and the record has a value that isn't fit.
-#[tactic(auto, using(crate::proofs::Flags::and_true), unfolding(crate::specs::Row::records_wrong, crate::specs::Row::usable_records))]
-fn record_wrong(past: History, count: u16, limit: u32) -> bool
-    ensures { result ≡ records_wrong (past ∷ []) count limit }
-{
-    if limit < count as u32 {
-        return true;
-    }
-    if 0 < count {
-        return !fit_record(past);
-    }
-    false
-}
-
-// The refusal of a step of one value, or 0.
-#[tactic(auto, using(crate::proofs::Flags::and_true), unfolding(crate::specs::Row::refusal_of, crate::specs::Row::rows_wrong, crate::specs::Row::values_wrong, crate::specs::Row::usable_row))]
-fn refuse_value(
-    x: f64,
-    y: f64,
-    past: History,
-    count: u16,
-    method: u32,
-    tolerance: f64,
-    limit: u32,
-) -> u32
-    ensures { result ≡ refusal_of (x ∷ []) (y ∷ []) (past ∷ []) count method tolerance limit }
-{
-    if tolerance_wrong(tolerance) {
-        return 31;
-    }
-    if limit_wrong(limit, method) {
-        return 32;
-    }
-    if !fit(x) {
-        return 33;
-    }
-    if !fit(y) {
-        return 33;
-    }
-    if record_wrong(past, count, limit) {
-        return 34;
-    }
-    0
-}
-
-// A verdict at which nothing changes.
-fn stay(verdict: Verdict, x: f64, past: History, count: u16) -> Step
-    ensures { result ≡ stayed verdict x past count }
-{
-    Step {
-        verdict,
-        x,
-        past,
-        count,
-    }
-}
-
-// The step of one value that isn't refused.
-#[tactic(auto, using(crate::proofs::Flags::and_true), unfolding(crate::specs::Row::after, crate::specs::Row::judged, crate::specs::Row::all_close, crate::specs::Row::largest_of, crate::specs::Row::largest_from, crate::specs::Row::nexts_of, crate::specs::Row::stray_or, crate::specs::Row::records_of))]
-fn judge_value(
-    x: f64,
-    y: f64,
-    past: History,
-    count: u16,
-    method: u32,
-    tolerance: f64,
-    limit: u32,
-) -> Step
-    requires { (count ≤ limit) × (limit ≤ 500) }
-    ensures { ValueStep (after (x ∷ []) (y ∷ []) (past ∷ []) count method (judged (x ∷ []) (y ∷ []) (past ∷ []) count method tolerance limit)) result }
-{
-    let d = gap(x, y);
-    let this = History { x, y };
-    let raised = count + 1;
-    if is_close(x, y, tolerance) {
-        return stay(Verdict::Settled(d), x, past, count);
-    }
-    if count as u32 == limit {
-        return stay(Verdict::Spent(d), x, past, count);
-    }
-    let next = next_value(x, y, past, count, method);
-    if is_beyond(next) {
-        return stay(Verdict::Strayed(next), x, past, count);
-    }
-    Step {
-        verdict: Verdict::Moved(d),
-        x: next,
-        past: this,
-        count: raised,
-    }
-}
-
-// The step of one value: its verdict, and x, record and count as they stand after it. Refuses by 31 to 34.
-#[tactic(auto, using(crate::proofs::Accepted::accepted), unfolding(crate::specs::Row::stepped, crate::specs::Row::after, crate::specs::Row::verdict_of))]
-pub fn step_value(
-    x: f64,
-    y: f64,
-    past: History,
-    count: u16,
-    method: u32,
-    tolerance: f64,
-    limit: u32,
-) -> Step
-    ensures { ValueStep (value_stepped x y past count method tolerance limit) result }
-{
-    let n = refuse_value(x, y, past, count, method, tolerance, limit);
-    if n != 0 {
-        return stay(Verdict::Refused(n), x, past, count);
-    }
-    judge_value(x, y, past, count, method, tolerance, limit)
-}
-
-// Whether every value of a row is finite and not beyond 1e12 in size.
-#[tactic(auto, using(crate::proofs::Left::usable_left, crate::proofs::Left::usable_end))]
+// Whether every value of a row is finite and not beyond 1e12 in size, which 33 asks of x and of y.
 fn all_fit(row: &[f64]) -> bool
     ensures { result ≡ usable_row row.now }
 {
-    let mut i = 0;
-    while i < row.len() {
-        if !fit(row[i]) {
-            return false;
-        }
-        i += 1;
-    }
-    true
+    row.iter().all(|v| fit(*v))
 }
 
-// Whether every record has both its values so; the records stand in two rows of one length.
-#[tactic(auto, using(crate::proofs::Left::usable_records_left, crate::proofs::Left::records_end))]
-fn all_fit_records(past_x: &[f64], past_y: &[f64]) -> bool
-    requires { length past_x.now ≡ length past_y.now }
-    ensures { result ≡ usable_records (records_of past_x.now past_y.now) }
+// Whether every record has both its values so, which 34 asks.
+fn all_fit_records(history: &[History]) -> bool
+    ensures { result ≡ usable_records history.now }
 {
-    let mut i = 0;
-    while i < past_x.len() {
-        let x = past_x[i];
-        let y = past_y[i];
-        if !fit_record(History { x, y }) {
-            return false;
-        }
-        i += 1;
-    }
-    true
+    history.iter().all(|past| fit_record(*past))
 }
 
-// Whether every value of two rows of one length is close.
-#[tactic(auto, using(crate::proofs::Left::close_left, crate::proofs::Left::close_end))]
+// 34: whether the count is over the limit, or is over 0 and some record has a value that isn't fit.
+#[tactic(auto, unfolding(crate::specs::Row::records_wrong))]
+fn records_wrong(history: &[History], count: u16, limit: u32) -> bool
+    ensures { result ≡ records_wrong history.now count limit }
+{
+    limit < u32::from(count) || (0 < count && !all_fit_records(history))
+}
+
+// The method of a step that isn't refused. The refusals are tried in the order of their numbers.
+#[tactic(auto, unfolding(crate::specs::Row::refusal_of, crate::specs::Row::values_wrong))]
+fn accept(
+    x: &[f64],
+    y: &[f64],
+    history: &[History],
+    count: u16,
+    terms: Terms,
+) -> Result<Method, Refusal>
+    ensures { Accepts (refusal_of x.now y.now history.now count terms.method terms.tolerance terms.limit) terms.method result }
+{
+    if rows_wrong(x.len(), y.len(), history.len()) {
+        return Err(Refusal::Rows);
+    }
+    if tolerance_wrong(terms.tolerance) {
+        return Err(Refusal::Tolerance);
+    }
+    let method = method_of(terms)?;
+    if !all_fit(x) || !all_fit(y) {
+        return Err(Refusal::Values);
+    }
+    if records_wrong(history, count, terms.limit) {
+        return Err(Refusal::Records);
+    }
+    Ok(method)
+}
+
+// Whether every value of two rows is close.
 fn all_close(x: &[f64], y: &[f64], tolerance: f64) -> bool
-    requires { length x.now ≡ length y.now }
     ensures { result ≡ all_close x.now y.now tolerance }
 {
-    let mut i = 0;
-    while i < x.len() {
-        if !is_close(x[i], y[i], tolerance) {
-            return false;
-        }
-        i += 1;
-    }
-    true
+    x.iter().zip(y).all(|(x, y)| is_close(*x, *y, tolerance))
 }
 
-// The larger of two.
-fn larger_of(a: f64, b: f64) -> f64
-    ensures { result ≡ larger a b }
-{
-    if a < b { b } else { a }
-}
-
-// The largest |y - x| of two rows of one length that aren't empty.
-#[tactic(auto, using(crate::proofs::Left::largest_first, crate::proofs::Left::largest_left, crate::proofs::Left::largest_end))]
+// The largest |y - x| of two rows.
 fn largest_gap(x: &[f64], y: &[f64]) -> f64
-    requires { (length x.now ≡ length y.now) × (0 < length x.now) }
     ensures { result ≡ largest_of x.now y.now }
 {
-    let mut top = gap(x[0], y[0]);
-    let mut k = 1;
-    while k < x.len() {
-        top = larger_of(top, gap(x[k], y[k]));
-        k += 1;
-    }
-    top
+    x.iter()
+        .zip(y)
+        .map(|(x, y)| gap(*x, *y))
+        .reduce(larger_of)
+        .unwrap_or(0.0)
 }
 
-// 34, of a row: whether the count is over the limit, or is over 0 and some record has a value that isn't fit.
-#[tactic(auto, unfolding(crate::specs::Row::records_wrong))]
-fn records_wrong(past_x: &[f64], past_y: &[f64], count: u16, limit: u32) -> bool
-    requires { length past_x.now ≡ length past_y.now }
-    ensures { result ≡ records_wrong (records_of past_x.now past_y.now) count limit }
+// The first next value beyond 1e12 in size.
+fn first_stray(x: &[f64], y: &[f64], history: &[History], count: u16, method: Method) -> Option<f64>
+    ensures { result ≡ find beyond (nexts_of x.now y.now history.now count (method_number method)) }
 {
-    if limit < count as u32 {
-        return true;
-    }
-    if 0 < count {
-        return !all_fit_records(past_x, past_y);
-    }
-    false
-}
-
-// The refusal of a step of a row whose records stand in two rows of one length, or 0.
-#[tactic(auto, using(crate::proofs::Rows::records_length), unfolding(crate::specs::Row::refusal_of, crate::specs::Row::values_wrong))]
-fn refuse_row(
-    x: &[f64],
-    y: &[f64],
-    past_x: &[f64],
-    past_y: &[f64],
-    count: u16,
-    method: u32,
-    tolerance: f64,
-    limit: u32,
-) -> u32
-    requires { length past_x.now ≡ length past_y.now }
-    ensures { result ≡ refusal_of x.now y.now (records_of past_x.now past_y.now) count method tolerance limit }
-{
-    if rows_wrong(x.len(), y.len(), past_x.len()) {
-        return 30;
-    }
-    if tolerance_wrong(tolerance) {
-        return 31;
-    }
-    if limit_wrong(limit, method) {
-        return 32;
-    }
-    if !all_fit(x) {
-        return 33;
-    }
-    if !all_fit(y) {
-        return 33;
-    }
-    if records_wrong(past_x, past_y, count, limit) {
-        return 34;
-    }
-    0
-}
-
-// Strayed with the first next value beyond 1e12 in size, else Moved with `top`.
-#[tactic(auto, using(crate::proofs::Left::stray_left, crate::proofs::Left::stray_end))]
-fn stray_or_move(
-    x: &[f64],
-    y: &[f64],
-    past_x: &[f64],
-    past_y: &[f64],
-    count: u16,
-    method: u32,
-    top: f64,
-) -> Verdict
-    requires { (length x.now ≡ length y.now) × (length x.now ≡ length past_x.now) × (length x.now ≡ length past_y.now) }
-    ensures { answer_of result ≡ stray_or (nexts_of x.now y.now (records_of past_x.now past_y.now) count method) (moved top) }
-{
-    let mut i = 0;
-    while i < x.len() {
-        let a = past_x[i];
-        let b = past_y[i];
-        let next = next_value(x[i], y[i], History { x: a, y: b }, count, method);
-        if is_beyond(next) {
-            return Verdict::Strayed(next);
-        }
-        i += 1;
-    }
-    Verdict::Moved(top)
+    x.iter()
+        .zip(y)
+        .zip(history)
+        .map(|((x, y), past)| next_value(*x, *y, *past, count, method))
+        .find(|next| is_beyond(*next))
 }
 
 // The verdict of a row that isn't refused.
-#[tactic(auto, unfolding(crate::specs::Row::judged))]
-fn judge_row(
+#[tactic(auto, using(crate::proofs::Chains::stray_found, crate::proofs::Chains::stray_none), unfolding(crate::specs::Row::judged))]
+fn judge(
     x: &[f64],
     y: &[f64],
-    past_x: &[f64],
-    past_y: &[f64],
+    history: &[History],
     count: u16,
-    method: u32,
-    tolerance: f64,
-    limit: u32,
+    method: Method,
+    terms: Terms,
 ) -> Verdict
-    requires { (length x.now ≡ length y.now) × (length x.now ≡ length past_x.now) × (length x.now ≡ length past_y.now) × (0 < length x.now) }
-    ensures { answer_of result ≡ judged x.now y.now (records_of past_x.now past_y.now) count method tolerance limit }
+    ensures { answer_of result ≡ judged x.now y.now history.now count (method_number method) terms.tolerance terms.limit }
 {
     let top = largest_gap(x, y);
-    if all_close(x, y, tolerance) {
+    if all_close(x, y, terms.tolerance) {
         return Verdict::Settled(top);
     }
-    if count as u32 == limit {
+    if u32::from(count) == terms.limit {
         return Verdict::Spent(top);
     }
-    stray_or_move(x, y, past_x, past_y, count, method, top)
-}
-
-// The verdict of a row: refused, or judged.
-#[tactic(auto, using(crate::proofs::Lent::rows_unlevel, crate::proofs::Lent::rows_answer, crate::proofs::Rows::records_length, crate::proofs::Accepted::accepted), unfolding(crate::specs::Row::verdict_of))]
-fn answer_row(
-    x: &[f64],
-    y: &[f64],
-    past_x: &[f64],
-    past_y: &[f64],
-    count: u16,
-    method: u32,
-    tolerance: f64,
-    limit: u32,
-) -> Verdict
-    ensures { answer_of result ≡ (rows_stepped x.now y.now past_x.now past_y.now count method tolerance limit).answer }
-{
-    if past_x.len() != past_y.len() {
-        return Verdict::Refused(30);
+    match first_stray(x, y, history, count, method) {
+        Some(next) => Verdict::Strayed(next),
+        None => Verdict::Moved(top),
     }
-    let n = refuse_row(x, y, past_x, past_y, count, method, tolerance, limit);
-    if n != 0 {
-        return Verdict::Refused(n);
-    }
-    judge_row(x, y, past_x, past_y, count, method, tolerance, limit)
 }
 
 // Writes the next values over x, and this x and y into the records.
-fn move_row(
-    x: &mut [f64],
-    y: &[f64],
-    past_x: &mut [f64],
-    past_y: &mut [f64],
-    count: u16,
-    method: u32,
-)
-    requires { (length x.old ≡ length y.now) × (length x.old ≡ length past_x.old) × (length x.old ≡ length past_y.old) }
-    ensures row { x.new ≡ nexts_of x.old y.now (records_of past_x.old past_y.old) count method }
-    ensures recordX { past_x.new ≡ x.old }
-    ensures recordY { past_y.new ≡ y.now }
+fn move_row(x: &mut [f64], y: &[f64], history: &mut [History], count: u16, method: Method)
+    requires { (length x.old ≡ length y.now) × (length x.old ≡ length history.old) }
+    ensures row { x.new ≡ nexts_of x.old y.now history.old count (method_number method) }
+    ensures records { history.new ≡ records_of x.old y.now }
 {
-    let mut i = 0;
-    while i < x.len() {
-        let v = x[i];
-        let w = y[i];
-        let a = past_x[i];
-        let b = past_y[i];
-        x[i] = next_value(v, w, History { x: a, y: b }, count, method);
-        past_x[i] = v;
-        past_y[i] = w;
-        i += 1;
+    // By index: over the rows zipped, the proof did not close, for what is written through a zip is not known after it.
+    for i in 0..x.len() {
+        let this = History { x: x[i], y: y[i] };
+        x[i] = next_value(this.x, this.y, history[i], count, method);
+        history[i] = this;
     }
 }
 
-// The step of a row of 1 to 16 values, with the records as two rows: on Moved the next values stand in x, the records
+// The step of a row of 1 to 16 values, with one record for each value: on Moved the next values stand in x, the records
 // hold this x and y and the count is one more; at every other verdict all stays. Refuses by 30 to 34.
-#[tactic(auto, using(crate::proofs::Lent::rows_kept))]
+#[tactic(auto, using(crate::proofs::Lent::history_kept))]
+pub fn step_history(
+    x: &mut [f64],
+    y: &[f64],
+    history: &mut [History],
+    count: &mut u16,
+    terms: Terms,
+) -> Verdict
+    ensures { HistoryStep (stepped x.old y.now history.old count.old terms.method terms.tolerance terms.limit) result x.new history.new count.new }
+{
+    let n = *count;
+    let method = match accept(x, y, history, n, terms) {
+        Ok(method) => method,
+        Err(refusal) => return Verdict::Refused(refusal),
+    };
+    match judge(x, y, history, n, method, terms) {
+        Verdict::Moved(top) => {
+            move_row(x, y, history, n, method);
+            *count = n + 1;
+            Verdict::Moved(top)
+        }
+        verdict => verdict,
+    }
+}
+
+// The step of one value, as rows of one: its verdict, and x, record and count as they stand after it. Refuses by 31 to 34.
+pub fn step_value(x: f64, y: f64, past: History, count: u16, terms: Terms) -> Step
+    ensures { ValueStep (value_stepped x y past count terms.method terms.tolerance terms.limit) result }
+{
+    let mut row = [x];
+    let mut records = [past];
+    let mut moves = count;
+    let verdict = step_history(&mut row, &[y], &mut records, &mut moves, terms);
+    Step {
+        verdict,
+        x: row[0],
+        past: records[0],
+        count: moves,
+    }
+}
+
+// The records that two rows of one length make.
+fn read_records(past_x: &[f64], past_y: &[f64], history: &mut [History])
+    requires { (length past_x.now ≡ length past_y.now) × (length past_x.now ≡ length history.old) }
+    ensures { history.new ≡ records_of past_x.now past_y.now }
+{
+    // By index: over the rows zipped, the proof did not close, for what is written through a zip is not known after it.
+    for i in 0..history.len() {
+        history[i] = History {
+            x: past_x[i],
+            y: past_y[i],
+        };
+    }
+}
+
+// Writes the records into two rows of their length.
+fn write_records(history: &[History], past_x: &mut [f64], past_y: &mut [f64])
+    requires { (length past_x.old ≡ length history.now) × (length past_y.old ≡ length history.now) }
+    ensures x { past_x.new ≡ map (λ (p : History). p.x) history.now }
+    ensures y { past_y.new ≡ map (λ (p : History). p.y) history.now }
+{
+    // By index: over the rows zipped, the proof did not close, for what is written through a zip is not known after it.
+    for (i, past) in history.iter().enumerate() {
+        past_x[i] = past.x;
+        past_y[i] = past.y;
+    }
+}
+
+// The same step, with the records as two plain rows, of x and of y: two rows are what this function promises its callers.
 pub fn step_row(
     x: &mut [f64],
     y: &[f64],
     past_x: &mut [f64],
     past_y: &mut [f64],
     count: &mut u16,
-    method: u32,
-    tolerance: f64,
-    limit: u32,
+    terms: Terms,
 ) -> Verdict
-    ensures { RowStep (rows_stepped x.old y.now past_x.old past_y.old count.old method tolerance limit) result x.new past_x.new past_y.new count.new }
+    ensures { RowStep (rows_stepped x.old y.now past_x.old past_y.old count.old terms.method terms.tolerance terms.limit) result x.new past_x.new past_y.new count.new }
 {
-    let n = *count;
-    let v = answer_row(x, y, past_x, past_y, n, method, tolerance, limit);
-    match v {
-        Verdict::Settled(d) => Verdict::Settled(d),
-        Verdict::Spent(d) => Verdict::Spent(d),
-        Verdict::Strayed(d) => Verdict::Strayed(d),
-        Verdict::Moved(d) => {
-            move_row(x, y, past_x, past_y, n, method);
-            *count = n + 1;
-            Verdict::Moved(d)
-        }
-        Verdict::Refused(k) => Verdict::Refused(k),
+    let n = past_x.len();
+    if n != past_y.len() || 16 < n {
+        return Verdict::Refused(Refusal::Rows);
     }
-}
-
-// From here on the records are lent as a row of structs. `read_pasts`, `write_pasts` and `step_history` have that row in their
-// signatures; all work on numbers is done between them, by value.
-
-// The records of a row of at most 16 values, by value: the x of each, and the y of each.
-#[derive(Clone, Copy)]
-struct Pasts {
-    x: [f64; 16],
-    y: [f64; 16],
-}
-
-// No records: zeros.
-fn no_pasts() -> Pasts
-    ensures { result ≡ no_pasts }
-{
-    Pasts {
-        x: [0.0; 16],
-        y: [0.0; 16],
-    }
-}
-
-// The records with the one at i replaced.
-fn with_past(pasts: Pasts, i: usize, past: History) -> Pasts
-    requires { i < 16 }
-    ensures { result ≡ with_past pasts i past }
-{
-    let mut x = pasts.x;
-    let mut y = pasts.y;
-    x[i] = past.x;
-    y[i] = past.y;
-    Pasts { x, y }
-}
-
-// The record at i.
-fn past_at(pasts: Pasts, i: usize) -> History
-    requires { i < 16 }
-    ensures { result ≡ past_at pasts i }
-{
-    let x = pasts.x;
-    let y = pasts.y;
-    History { x: x[i], y: y[i] }
-}
-
-// How many records of a row are read: all, or none where there are over 16.
-fn readable(length: usize) -> usize
-    ensures { result ≡ readable_of length }
-{
-    if 16 < length {
-        return 0;
-    }
-    length
-}
-
-// A row's verdict, and the records to write: the first `moved` of `pasts`.
-#[derive(Clone, Copy)]
-struct Rewrite {
-    verdict: Verdict,
-    pasts: Pasts,
-    moved: usize,
-}
-
-// How many of n records a verdict rewrites: all on Moved, else none.
-fn rewritten(verdict: Verdict, n: usize) -> usize
-    ensures { result ≡ rewritten_of (answer_of verdict) n }
-{
-    match verdict {
-        Verdict::Settled(_) => 0,
-        Verdict::Spent(_) => 0,
-        Verdict::Strayed(_) => 0,
-        Verdict::Moved(_) => n,
-        Verdict::Refused(_) => 0,
-    }
-}
-
-// The step of a row whose records are the first n of `pasts`.
-fn step_pasts(
-    x: &mut [f64],
-    y: &[f64],
-    pasts: Pasts,
-    n: usize,
-    count: &mut u16,
-    method: u32,
-    tolerance: f64,
-    limit: u32,
-) -> Rewrite
-    requires { n ≤ 16 }
-    ensures { PastsStep (rows_stepped x.old y.now (take n pasts.x) (take n pasts.y) count.old method tolerance limit) n result x.new count.new }
-{
-    let mut a = pasts.x;
-    let mut b = pasts.y;
-    let verdict = step_row(
-        x,
-        y,
-        &mut a[..n],
-        &mut b[..n],
-        count,
-        method,
-        tolerance,
-        limit,
-    );
-    let moved = rewritten(verdict, n);
-    Rewrite {
-        verdict,
-        pasts: Pasts { x: a, y: b },
-        moved,
-    }
-}
-
-// The first n records of a row, by value.
-#[tactic(auto, unfolding(crate::specs::Pasts::array_of, crate::specs::Pasts::pasts_of))]
-fn read_pasts(history: &[History], n: usize) -> Pasts
-    requires { (n ≤ 16) × (n ≤ length history.now) }
-    ensures { result ≡ pasts_of history.now n }
-{
-    let mut pasts = no_pasts();
-    let mut i = 0usize;
-    while i < n {
-        pasts = with_past(pasts, i, history[i]);
-        i += 1;
-    }
-    pasts
-}
-
-// Writes the first n records.
-#[tactic(auto, unfolding(crate::specs::Pasts::written_of))]
-fn write_pasts(history: &mut [History], pasts: Pasts, n: usize)
-    requires { (n ≤ 16) × (n ≤ length history.old) }
-    ensures { history.new ≡ written_of history.old pasts n }
-{
-    let mut i = 0usize;
-    while i < n {
-        history[i] = past_at(pasts, i);
-        i += 1;
-    }
-}
-
-// The step of a row of 1 to 16 values, with one record for each value: on Moved the next values stand in x, the records
-// hold this x and y and the count is one more; at every other verdict all stays. Refuses by 30 to 34.
-pub fn step_history(
-    x: &mut [f64],
-    y: &[f64],
-    history: &mut [History],
-    count: &mut u16,
-    method: u32,
-    tolerance: f64,
-    limit: u32,
-) -> Verdict
-    ensures { HistoryStep (stepped x.old y.now history.old count.old method tolerance limit) result x.new history.new count.new }
-{
-    let n = readable(history.len());
-    let pasts = read_pasts(history, n);
-    let s = step_pasts(x, y, pasts, n, count, method, tolerance, limit);
-    write_pasts(history, s.pasts, s.moved);
-    s.verdict
+    let mut records = [History { x: 0.0, y: 0.0 }; 16];
+    let history = &mut records[..n];
+    read_records(past_x, past_y, history);
+    let verdict = step_history(x, y, history, count, terms);
+    write_records(history, past_x, past_y);
+    verdict
 }
