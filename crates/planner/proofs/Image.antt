@@ -11,11 +11,9 @@ use lib.Seq.{sets, sets-eq, take-suc, length-take-le}
 use Rattle.flowsheet.specs.Written.{flat}
 use Rattle.words.specs.Words.{bytes_of, with_number}
 use Rattle.words.proofs.Numbers.{length_bytes, sets-append}
-use Rattle.words.proofs.Rows.{take-padded}
-use Rattle.planner.specs.Image.{image_length, plan_header, plan_numbers, plan_bytes, plan_length, with_numbers, laid_over, Counted}
+use Rattle.planner.specs.Image.{image_length, plan_header, plan_numbers, plan_bytes, plan_length, with_numbers, laid_over}
 use Rattle.planner.specs.Plan.{BlockPlan}
-use Rattle.planner.specs.Tables.{held_numbers, order_table, torn_table, block_table, numbers_of, plan_value}
-use Rattle.planner.specs.declared.Numbers.{Numbers}
+use Rattle.planner.specs.Tables.{order_table, torn_table, block_table, plan_value}
 use Rattle.planner.specs.declared.Plan.{Plan}
 
 flat_append : {A : Type 0} (f : A → List ℕ) (xs ys : List A) → flat f (xs ++ ys) ≡ flat f xs ++ flat f ys
@@ -32,14 +30,14 @@ sets_rows l at xs ys =
     rw (← length-flat 2 xs, flat_append (bytes_of 2) xs ys) (sets-append l at (flat (bytes_of 2) xs) (flat (bytes_of 2) ys))
 
 -- a row's first i numbers, and one more
-pub one_more : (l : List ℕ) (at : ℕ) (row : List ℕ) (i : ℕ) → i < length row
-    → with_number 2 (with_numbers l at (take i row)) (at + 2 * i) (get_or row i 0) ≡ with_numbers l at (take (i + 1) row)
+pub one_more : (l m : List ℕ) (at : ℕ) (row : List ℕ) (i : ℕ) → i < length row → m ≡ with_numbers l at (take i row)
+    → with_number 2 m (at + 2 * i) (get_or row i 0) ≡ with_numbers l at (take (i + 1) row)
 unfolding with_number
-one_more l at row i h =
+one_more l m at row i h is =
     let n : length (take i row) ≡ i = length-take-le i row (omega arith) in
     let t : take (i + 1) row ≡ take i row ++ (get_or row i 0 ∷ []) = rw (add-one i) (take-suc row i 0 h) in
     let e = sets_rows l at (take i row) (get_or row i 0 ∷ []) in
-    rw t (rw (n, append-nil (bytes_of 2 (get_or row i 0))) at e)
+    rw (is, t) (rw (n, append-nil (bytes_of 2 (get_or row i 0))) at e)
 
 -- four rows of numbers one after the other from the front on, of which the first has eight
 four_rows : (l head blocks order torn : List ℕ) → length head ≡ 8
@@ -107,39 +105,24 @@ module _ (blocks order torn : List ℕ) where
       (four_rows l (plan_header (length blocks) (length order) (length torn)) blocks order torn refl
       ∙ laid l (flat (bytes_of 2) (plan_numbers blocks order torn)) fits)
 
--- what a table holds is what was put in
-pub held_of : (xs : List ℕ) → held_numbers (numbers_of xs) ≡ xs
-unfolding held_numbers numbers_of
-held_of xs = take-padded 256 0 xs
-
-pub length_held : (t : Numbers) → t.count ≤ 256 → length t.numbers ≡ 256 → length (held_numbers t) ≡ t.count
-unfolding held_numbers
-length_held t h e = length-take-le t.count t.numbers (omega arith)
-
 -- plans that hold the same lists have the same image
-pub same_bytes : (p q : Plan) → held_numbers p.blocks ≡ held_numbers q.blocks → held_numbers p.order ≡ held_numbers q.order
-    → held_numbers p.torn ≡ held_numbers q.torn → plan_bytes p ≡ plan_bytes q
+pub same_bytes : (p q : Plan) → p.blocks ≡ q.blocks → p.order ≡ q.order → p.torn ≡ q.torn → plan_bytes p ≡ plan_bytes q
 unfolding plan_bytes
 same_bytes p q b o t = rw (b, o, t)
 
 -- the image of a plan's value
 pub bytes_of_lem : (bs : List BlockPlan) → plan_bytes (plan_value bs) ≡ flat (bytes_of 2) (plan_numbers (block_table bs) (order_table bs) (torn_table bs))
 unfolding plan_bytes plan_value
-bytes_of_lem bs = rw (held_of (block_table bs), held_of (order_table bs), held_of (torn_table bs))
+bytes_of_lem bs = refl
 
-module _ (p : Plan) (counted : Counted p) (b : length p.blocks.numbers ≡ 256) (o : length p.order.numbers ≡ 256) (t : length p.torn.numbers ≡ 256) where
-  lengths : (length (held_numbers p.blocks) ≡ p.blocks.count) × (length (held_numbers p.order) ≡ p.order.count) × (length (held_numbers p.torn) ≡ p.torn.count)
-  lengths = (length_held p.blocks counted.blocks b, length_held p.order counted.order o, length_held p.torn counted.torn t)
-
+module _ (p : Plan) where
   pub length_plan : length (plan_bytes p) ≡ plan_length p
   unfolding plan_bytes
-  length_plan =
-      rw (length_numbers (held_numbers p.blocks) (held_numbers p.order) (held_numbers p.torn), lengths.0, lengths.1, lengths.2)
+  length_plan = length_numbers p.blocks p.order p.torn
 
   -- the header and the tables, one after the other, are the plan's image laid over the buffer
   pub all_written : (l : List ℕ) → plan_length p ≤ length l
-      → with_numbers (with_numbers (with_numbers (with_numbers l 0 (plan_header p.blocks.count p.order.count p.torn.count)) 16 (held_numbers p.blocks)) (16 + 2 * p.blocks.count) (held_numbers p.order)) (16 + 2 * p.blocks.count + 2 * p.order.count) (held_numbers p.torn)
+      → with_numbers (with_numbers (with_numbers (with_numbers l 0 (plan_header (length p.blocks) (length p.order) (length p.torn))) 16 p.blocks) (16 + 2 * length p.blocks) p.order) (16 + 2 * length p.blocks + 2 * length p.order) p.torn
       ≡ laid_over (plan_bytes p) l
   unfolding plan_bytes
-  all_written l h =
-      all_rows (held_numbers p.blocks) (held_numbers p.order) (held_numbers p.torn) l p.blocks.count p.order.count p.torn.count lengths.0 lengths.1 lengths.2 h
+  all_written l h = all_rows p.blocks p.order p.torn l (length p.blocks) (length p.order) (length p.torn) refl refl refl h

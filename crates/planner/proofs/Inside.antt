@@ -6,9 +6,8 @@ use mathlib.Core.Logic.{◌⊎◌, inl, inr}
 use mathlib.Core.Path.{◌≡◌, refl, sym, ap, ap₂, ◌∙◌}
 use Prim.Native.Nat.{ℕ}
 use lib.ListN.{replicate}
-use Rattle.flowsheet.specs.Sheet.{place_of, found}
-use Rattle.flowsheet.specs.declared.Place.{Place}
-use Rattle.flowsheet.specs.declared.Place.TheVariants.{At, Nowhere}
+use Rattle.flowsheet.specs.Sheet.{place_of}
+use Rattle.std.specs.Prelude.{Option, Some, None, is_some}
 use Rattle.flowsheet.specs.declared.Stream.{Stream}
 use Rattle.planner.specs.Plan.{charge_at, charged, charged_all, row_of, ordered_of, is_torn, torn_of, block_plan}
 use Rattle.planner.proofs.Found.{mem_found, mem_cases, not_found}
@@ -17,7 +16,7 @@ use Rattle.planner.proofs.TornStreams.{torn_source, torn_receiver}
 
 -- both ends of the stream are in the block
 abbrev pub inside : List ℕ → Stream → Bool
-inside block s = found (place_of block s.source) && found (place_of block s.receiver)
+inside block s = is_some (place_of block s.source) && is_some (place_of block s.receiver)
 
 -- the streams with both ends in the block, in their order
 abbrev pub inside_of : List ℕ → List Stream → List Stream
@@ -38,10 +37,10 @@ outside_ends block s f = go (mem_cases block s.source) (mem_cases block s.receiv
 
 -- ---- the weights
 
-charge_outside : (p q : Place) (x : ℕ) (w : List ℕ) → (found p && found q) ≡ false → charge_at p q x w ≡ w
-charge_outside (At i) (At j) x w e = absurd (true≢false e)
-charge_outside (At i) Nowhere x w e = refl
-charge_outside Nowhere q x w e = refl
+charge_outside : (p q : Option ℕ) (x : ℕ) (w : List ℕ) → (is_some p && is_some q) ≡ false → charge_at p q x w ≡ w
+charge_outside (Some i) (Some j) x w e = absurd (true≢false e)
+charge_outside (Some i) None x w e = refl
+charge_outside None q x w e = refl
 
 charged_inside : (block : List ℕ) (ss : List Stream) (w : List ℕ) → charged_all block w ss ≡ charged_all block w (inside_of block ss)
 unfolding charged

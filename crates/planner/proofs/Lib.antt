@@ -18,5 +18,6 @@ pub mod ScreenParts
 pub mod SettledImage
 mod Spans
 mod Turns
+mod Ends
 mod Sorting
 mod Answers

@@ -11,8 +11,7 @@ use lib.ListN.{length, get_or, replicate, length-set, length-replicate}
 use Rattle.blocks.specs.Links.{Link, SameBlock}
 use Rattle.flowsheet.specs.Good.{Good}
 use Rattle.flowsheet.specs.Sheet.{place_of}
-use Rattle.flowsheet.specs.declared.Place.{Place}
-use Rattle.flowsheet.specs.declared.Place.TheVariants.{At, Nowhere}
+use Rattle.std.specs.Prelude.{Option, Some, None}
 use Rattle.flowsheet.specs.declared.Stream.{Stream}
 use Rattle.blocks.proofs.Links.{link_none, link_more}
 use Rattle.blocks.proofs.Paths.{same_map}
@@ -28,32 +27,32 @@ use Rattle.planner.proofs.Members.{mem_at, rises_at, rises_distinct}
 
 -- the stream s runs from place i to place j
 abbrev pub Runs : List ℕ → Stream → ℕ → ℕ → Type 0
-Runs us s i j = (place_of us s.source ≡ At i) × (place_of us s.receiver ≡ At j)
+Runs us s i j = (place_of us s.source ≡ Some i) × (place_of us s.receiver ≡ Some j)
 
 -- some stream of ss does
 abbrev pub Streamed : List ℕ → List Stream → ℕ → ℕ → Type 0
 Streamed us ss i j = (s : Stream) × Memᴰ s ss × Runs us s i j
 
-length_at : (p q : Place) (t : List ℕ) → length (link_at p q t) ≡ length t
-length_at (At i) (At j) t = length-set t i (bit_or (get_or t i 0) (2 ^ j))
-length_at (At i) Nowhere t = refl
-length_at Nowhere q t = refl
+length_at : (p q : Option ℕ) (t : List ℕ) → length (link_at p q t) ≡ length t
+length_at (Some i) (Some j) t = length-set t i (bit_or (get_or t i 0) (2 ^ j))
+length_at (Some i) None t = refl
+length_at None q t = refl
 
 pub length_link : (us t : List ℕ) (s : Stream) → length (with_link us t s) ≡ length t
 unfolding with_link
 length_link us t s = length_at (place_of us s.source) (place_of us s.receiver) t
 
-at_exact : (p q : Place) (t : List ℕ) → ((i : ℕ) → p ≡ At i → i < length t) → (a b : ℕ)
-    → Link (link_at p q t) a b ↔ (Link t a b ⊎ ((p ≡ At a) × (q ≡ At b)))
-at_exact (At i) (At j) t h a b =
+at_exact : (p q : Option ℕ) (t : List ℕ) → ((i : ℕ) → p ≡ Some i → i < length t) → (a b : ℕ)
+    → Link (link_at p q t) a b ↔ (Link t a b ⊎ ((p ≡ Some a) × (q ≡ Some b)))
+at_exact (Some i) (Some j) t h a b =
     let m = link_more t i j (h i refl) a b in
-    (λ l. ⊎_elim (λ x. inl x) (λ e. inr (ap At (sym e.0), ap At (sym e.1))) (m.0 l), λ s. m.1 (back s))
+    (λ l. ⊎_elim (λ x. inl x) (λ e. inr (ap Some (sym e.0), ap Some (sym e.1))) (m.0 l), λ s. m.1 (back s))
   where
-    back : Link t a b ⊎ ((At i ≡ At a) × (At j ≡ At b)) → Link t a b ⊎ ((a ≡ i) × (b ≡ j))
+    back : Link t a b ⊎ ((Some i ≡ Some a) × (Some j ≡ Some b)) → Link t a b ⊎ ((a ≡ i) × (b ≡ j))
     back (inl l) = inl l
     back (inr e) = inr (sym (at_same e.0), sym (at_same e.1))
-at_exact (At i) Nowhere t h a b = (λ l. inl l, ⊎_elim (λ l. l) (λ e. absurd (let z : ◌≡◌ {A = ℕ} 0 1 = cc e.1 in omega arith)))
-at_exact Nowhere q t h a b = (λ l. inl l, ⊎_elim (λ l. l) (λ e. absurd (let z : ◌≡◌ {A = ℕ} 0 1 = cc e.0 in omega arith)))
+at_exact (Some i) None t h a b = (λ l. inl l, ⊎_elim (λ l. l) (λ e. absurd (let z : ◌≡◌ {A = ℕ} 0 1 = cc e.1 in omega arith)))
+at_exact None q t h a b = (λ l. inl l, ⊎_elim (λ l. l) (λ e. absurd (let z : ◌≡◌ {A = ℕ} 0 1 = cc e.0 in omega arith)))
 
 -- a stream more is the link that it runs along more
 link_exact : (us : List ℕ) → length us ≤ 64 → (t : List ℕ) → length t ≡ 64 → (s : Stream) (i j : ℕ)
@@ -161,8 +160,8 @@ module _ {us : List ℕ} {ss : List Stream} (good : Good us ss) where
         f.stream,
         f.held,
         (
-          ap (place_of us) f.leaves ∙ a.1 ∙ ap At (sym (ap place_number a.1)),
-          ap (place_of us) f.enters ∙ b.1 ∙ ap At (sym (ap place_number b.1)),
+          ap (place_of us) f.leaves ∙ a.1 ∙ ap Some (sym (ap place_number a.1)),
+          ap (place_of us) f.enters ∙ b.1 ∙ ap Some (sym (ap place_number b.1)),
         ),
       )
 

@@ -1,7 +1,7 @@
 -- The loops over the blocks in their order, one block further each turn. Assumes nothing.
 use mathlib.Core.Bool.{true, false}
-use mathlib.Core.List.{List, [], ◌∷◌, ◌++◌, map, append_assoc, append-nil}
-use mathlib.Core.Path.{◌≡◌, refl, sym, ap, ◌∙◌}
+use mathlib.Core.List.{List, [], ◌∷◌, ◌++◌, map, Memᴰ, append_assoc, append-nil}
+use mathlib.Core.Path.{◌≡◌, refl, sym, ap, ◌∙◌, subst}
 use Prim.Native.Nat.{ℕ, zero, suc, ◌+◌, ◌≤◌, ◌<◌}
 use native.Mathlib.Numerals.{add-one}
 use native.Mathlib.Omega.{arith}
@@ -9,20 +9,15 @@ use borrow.Author.Tests.{lt-ltb, le-ltb}
 use lib.ListN.{length, length-append, get_or, take, drop, take-append-drop, length-map, drop_of_length-le}
 use lib.Seq.{drop-cons, length-take-le, take_all}
 use Rattle.blocks.specs.Blocks.{members_of}
-use Rattle.blocks.specs.declared.BlockOrder.{BlockOrder}
-use Rattle.flowsheet.specs.Sheet.{units_of, held_units, held_streams}
+use Rattle.blocks.specs.Order.{order_of}
+use Rattle.blocks.specs.declared.Reach.{Reach}
 use Rattle.flowsheet.specs.declared.Flowsheet.{Flowsheet}
 use Rattle.flowsheet.specs.declared.Stream.{Stream}
-use Rattle.flowsheet.specs.declared.Units.{Units}
 use Rattle.blocks.proofs.OrderOf.{order_below}
-use Rattle.blocks.proofs.Places.{holds_at, holds_mem}
-use Rattle.flowsheet.proofs.Good.{units_held}
-use Rattle.flowsheet.proofs.Held.{held_units_lem, units_count}
 use Rattle.planner.specs.Answer.{Sorted}
 use Rattle.planner.specs.Plan.{BlockPlan, any_over, units_in, reach_in, block_order, block_at, blocks_of, block_plan, ordered_of, torn_of, plan_of}
-use Rattle.planner.specs.Tables.{order_table, torn_table, records_from, block_table, held_numbers, Tidy, appended, with_block, plan_value}
+use Rattle.planner.specs.Tables.{order_table, torn_table, records_from, block_table, with_block, plan_value}
 use Rattle.planner.specs.declared.Plan.{Plan}
-use Rattle.planner.proofs.Append.{held_numbers_lem, numbers_count, numbers_tidy}
 use Rattle.planner.proofs.Members.{mem_at}
 use Rattle.planner.proofs.Parted.{plans_of, blocks_most, blocks_small, order_lengths, records_length}
 use Rattle.planner.proofs.TornStreams.{torn_front}
@@ -38,6 +33,11 @@ over_next f o k h l = rw (drop-cons o k 0 h, le-ltb 12 (length (f (get_or o k 0)
 
 pub over_none : (f : ℕ → List ℕ) (o : List ℕ) (k : ℕ) → length o ≤ k → any_over (map f (drop k o)) ≡ false
 over_none f o k h = rw (drop_of_length-le o h)
+
+-- each of the order's places is one of the places
+pub place_in : (t : List ℕ) (n : ℕ) (o : List ℕ) → o ≡ order_of t n → (k : ℕ) → k < length o → get_or o k 0 < n
+place_in t n o e k h =
+    order_below t n (get_or o k 0) (subst (λ (l : List ℕ). Memᴰ (get_or o k 0) l) e (mem_at o k 0 h))
 
 -- ---- a plan with one block more
 
@@ -59,11 +59,11 @@ records_last (x ∷ bs) b first before =
     rw (e, f, records_last bs b (first + length x.units) (before + length x.torn))
 
 pub with_block_lem : (bs : List BlockPlan) (b : BlockPlan) → with_block (plan_value bs) b ≡ plan_value (bs ++ (b ∷ []))
-unfolding with_block plan_value appended block_table
+unfolding with_block plan_value block_table
 with_block_lem bs b =
     let e : 0 + length (order_table bs) ≡ length (order_table bs) = omega arith in
     let f : 0 + length (torn_table bs) ≡ length (torn_table bs) = omega arith in
-    rw (held_numbers_lem (records_from 0 0 bs), held_numbers_lem (order_table bs), held_numbers_lem (torn_table bs), records_last bs b 0 0, order_table_last bs b, torn_table_last bs b, e, f, numbers_count (order_table bs), numbers_count (torn_table bs))
+    rw (records_last bs b 0 0, order_table_last bs b, torn_table_last bs b, e, f)
 
 -- ---- the blocks one after the other
 
@@ -78,50 +78,46 @@ at_map f (x ∷ l) d e zero h = refl
 at_map f (x ∷ l) d e (suc k) h = at_map f l d e k (omega arith)
 
 -- where the loop over the blocks stands at the block k
-module _ (sheet : Flowsheet) (reach : List ℕ) (order : BlockOrder) (s : Sorted sheet reach order) where
+module _ (sheet : Flowsheet) (reach : Reach) (order : List ℕ) (s : Sorted sheet reach order) where
   abbrev us : List ℕ
-  us = held_units sheet.units
+  us = sheet.units
 
   abbrev ss : List Stream
-  ss = held_streams sheet.streams
+  ss = sheet.streams
 
   abbrev bs : List (List ℕ)
   bs = blocks_of us ss
 
-  pub blocks_counted : order.count ≡ length bs
+  pub blocks_counted : length order ≡ length bs
   unfolding blocks_of
-  blocks_counted = s.listed.many ∙ sym (length-map (block_order us ss) (block_at us ss))
+  blocks_counted = ap length s.listed ∙ sym (length-map (block_order us ss) (block_at us ss))
 
-  pub few_blocks : order.count ≤ 64
-  few_blocks = omega (arith, blocks_counted, blocks_most s.sheet_good.good, s.sheet_good.good.few_units)
+  pub few_blocks : length order ≤ 64
+  few_blocks = omega (arith, blocks_counted, blocks_most s.sheet_good, s.sheet_good.few_units)
 
-  module _ (k : ℕ) (h : k < order.count) where
-    abbrev place : ℕ
-    place = get_or order.first k 0
-
-    pub place_below : place < sheet.units.count
+  module _ (k : ℕ) (h : k < length order) (place : ℕ) (at : place ≡ get_or order k 0) where
+    pub place_below : place < reach.places
     unfolding block_order
-    place_below =
-        rw (← units_held sheet s.sheet_good)
-        (order_below (reach_in us ss) (length us) place (holds_mem s.listed k h))
+    place_below = rw (s.places, at) (place_in (reach_in us ss) (length us) order s.listed k h)
 
     pub block_at_lem : get_or bs k [] ≡ block_at us ss place
     unfolding blocks_of
     block_at_lem =
-        at_map (block_at us ss) (block_order us ss) 0 [] k (omega (arith, s.listed.many))
-        ∙ ap (block_at us ss) (sym (holds_at s.listed k h))
+        at_map (block_at us ss) (block_order us ss) 0 [] k (omega (arith, ap length s.listed))
+        ∙ ap (λ (o : List ℕ). block_at us ss (get_or o k 0)) (sym s.listed)
+        ∙ ap (block_at us ss) (sym at)
 
-    pub block_units : units_in us (members_of reach sheet.units.count place) ≡ block_at us ss place
+    pub block_units : units_in us (members_of reach.rows reach.places place) ≡ block_at us ss place
     unfolding block_at
     block_units =
-        ap (λ (t : List ℕ). units_in us (members_of t sheet.units.count place)) s.reached
-        ∙ ap (λ (n : ℕ). units_in us (members_of (reach_in us ss) n place)) (sym (units_held sheet s.sheet_good))
+        ap (λ (t : List ℕ). units_in us (members_of t reach.places place)) s.reached
+        ∙ ap (λ (n : ℕ). units_in us (members_of (reach_in us ss) n place)) s.places
 
-    pub block_small : length (members_of reach sheet.units.count place) ≤ 12
+    pub block_small : length (members_of reach.rows reach.places place) ≤ 12
     block_small =
         let m = mem_at bs k [] (omega (arith, blocks_counted)) in
         let l = blocks_small us ss s.small (get_or bs k []) m in
-        omega (arith, ap length block_at_lem, ap length block_units, units_in-length us (members_of reach sheet.units.count place))
+        omega (arith, ap length block_at_lem, ap length block_units, units_in-length us (members_of reach.rows reach.places place))
 
     abbrev done : List BlockPlan
     done = plans_of ss (take k bs)
@@ -143,55 +139,49 @@ module _ (sheet : Flowsheet) (reach : List ℕ) (order : BlockOrder) (s : Sorted
 
     pub order_room : length (order_table done) + length this.units ≤ 64
     order_room =
-        let good = s.sheet_good.good in
+        let good = s.sheet_good in
         omega
         (arith, order_lengths good (take (k + 1) bs) (drop (k + 1) bs) split, ap (λ (ps : List BlockPlan). length (order_table ps)) done_more, ap length (order_table_last done this), length-append (order_table done) this.units, good.few_units)
 
     pub torn_room : length (torn_table done) + length this.torn ≤ 256
     torn_room =
-        let good = s.sheet_good.good in
+        let good = s.sheet_good in
         omega
         (arith, torn_front good (take (k + 1) bs) (drop (k + 1) bs) split, ap (λ (ps : List BlockPlan). length (torn_table ps)) done_more, ap length (torn_table_last done this), length-append (torn_table done) this.torn, good.few_streams)
 
-    -- the block's units in their order, and the plan so far: room for one block more, and the plan with it
-    module _ (u : Units) (is : u ≡ units_of (ordered_of (units_in us (members_of reach sheet.units.count place)) ss)) (plan : Plan)
-        (so_far : plan ≡ plan_value done) where
-      units_are : u ≡ units_of (ordered_of (block_at us ss place) ss)
-      units_are = is ∙ ap (λ (b : List ℕ). units_of (ordered_of b ss)) block_units
-
-      held_are : held_units u ≡ this.units
-      unfolding block_plan
-      held_are = ap held_units units_are ∙ held_units_lem (ordered_of (block_at us ss place) ss)
-
-      counted : u.count ≡ length this.units
-      unfolding block_plan
-      counted = ap (λ (x : Units). x.count) units_are ∙ units_count (ordered_of (block_at us ss place) ss)
-
-      torn_are : torn_of (held_units u) ss ≡ this.torn
-      unfolding block_plan
-      torn_are = ap (λ (o : List ℕ). torn_of o ss) held_are
-
-      pub tidy : Tidy plan.blocks × Tidy plan.order × Tidy plan.torn
+    -- the plan so far has room for one block more
+    module _ (plan : Plan) (so_far : plan ≡ plan_value done) where
+      pub records_fit : length plan.blocks + 4 ≤ 256
       unfolding plan_value
-      tidy = rw so_far (numbers_tidy (block_table done), numbers_tidy (order_table done), numbers_tidy (torn_table done))
+      records_fit = rw so_far records_room
 
-      pub units_few : u.count ≤ 64
-      units_few = omega (arith, counted, order_room)
+    -- and with the block's units in their order it has this one too
+    module _ (plan : Plan) (so_far : plan ≡ plan_value done) (u : List ℕ)
+        (is : u ≡ ordered_of (units_in us (members_of reach.rows reach.places place)) ss) where
+      units_are : u ≡ this.units
+      unfolding block_plan
+      units_are = is ∙ ap (λ (b : List ℕ). ordered_of b ss) block_units
 
-      pub rooms : (length (held_numbers plan.blocks) + 4 ≤ 256) × (length (held_numbers plan.order) + u.count ≤ 256)
+      torn_are : torn_of u ss ≡ this.torn
+      unfolding block_plan
+      torn_are = ap (λ (o : List ℕ). torn_of o ss) units_are
+
+      pub units_few : length u ≤ 64
+      units_few = omega (arith, ap length units_are, order_room)
+
+      pub units_fit : length plan.order + length u ≤ 256
       unfolding plan_value
-      rooms =
-          rw (so_far, held_numbers_lem (block_table done), held_numbers_lem (order_table done), counted) (records_room, omega (arith, order_room))
+      units_fit = rw (so_far, units_are) (omega (arith, order_room))
 
-      pub torn_fits : length (held_numbers plan.torn) + length (torn_of (held_units u) ss) ≤ 256
+      pub torn_fits : length plan.torn + length (torn_of u ss) ≤ 256
       unfolding plan_value
-      torn_fits = rw (so_far, held_numbers_lem (torn_table done), torn_are) torn_room
+      torn_fits = rw (so_far, torn_are) torn_room
 
-      pub plan_next : with_block plan (record { units = held_units u; torn = torn_of (held_units u) ss }) ≡ plan_value (plans_of ss (take (k + 1) bs))
+      pub plan_next : with_block plan (record { units = u; torn = torn_of u ss }) ≡ plan_value (plans_of ss (take (k + 1) bs))
       plan_next =
-          rw (torn_are, held_are)
+          rw (torn_are, units_are)
           (ap (λ (p : Plan). with_block p this) so_far ∙ with_block_lem done this ∙ ap plan_value (sym done_more))
 
-  pub all_done : (k : ℕ) → order.count ≤ k → plans_of ss (take k bs) ≡ plan_of us ss
+  pub all_done : (k : ℕ) → length order ≤ k → (plan : Plan) → plan ≡ plan_value (plans_of ss (take k bs)) → plan ≡ plan_value (plan_of us ss)
   unfolding plan_of
-  all_done k h = ap (plans_of ss) (take_all k bs (omega (arith, blocks_counted)))
+  all_done k h plan e = e ∙ ap (λ (bs : List (List ℕ)). plan_value (plans_of ss bs)) (take_all k bs (omega (arith, blocks_counted)))

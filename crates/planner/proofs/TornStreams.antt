@@ -14,8 +14,7 @@ use lib.ListN.{length, get_or, take, drop, length-append, length-drop, length-ma
 use lib.Seq.{split_at, get_or-drop, get_or-append_seam, get_or-append-add}
 use Rattle.flowsheet.specs.Good.{Good}
 use Rattle.flowsheet.specs.Sheet.{no_stream, place_of}
-use Rattle.flowsheet.specs.declared.Place.{Place}
-use Rattle.flowsheet.specs.declared.Place.TheVariants.{At, Nowhere}
+use Rattle.std.specs.Prelude.{Option, Some, None}
 use Rattle.flowsheet.specs.declared.Stream.{Stream}
 use Rattle.flowsheet.proofs.Good.{rising}
 use Rattle.flowsheet.proofs.Places.{place_found}
@@ -30,13 +29,13 @@ use Rattle.planner.proofs.Parted.{plans_of, front_distinct}
 -- ---- the test
 
 -- both ends are in the order, and the source doesn't stand before the receiver
-between_true : (p q : Place) → torn_between p q ≡ true → (i : ℕ) × (j : ℕ) × (p ≡ At i) × (q ≡ At j) × (j ≤ i)
-between_true (At i) (At j) e = (i, j, refl, refl, ltb-false i j (not-true (ltb i j) e))
-between_true (At i) Nowhere e = absurd (true≢false (sym e))
-between_true Nowhere q e = absurd (true≢false (sym e))
+between_true : (p q : Option ℕ) → torn_between p q ≡ true → (i : ℕ) × (j : ℕ) × (p ≡ Some i) × (q ≡ Some j) × (j ≤ i)
+between_true (Some i) (Some j) e = (i, j, refl, refl, ltb-false i j (not-true (ltb i j) e))
+between_true (Some i) None e = absurd (true≢false (sym e))
+between_true None q e = absurd (true≢false (sym e))
 
 pub torn_places : (order : List ℕ) (s : Stream) → is_torn order s ≡ true
-    → (i : ℕ) × (j : ℕ) × (place_of order s.source ≡ At i) × (place_of order s.receiver ≡ At j) × (j ≤ i)
+    → (i : ℕ) × (j : ℕ) × (place_of order s.source ≡ Some i) × (place_of order s.receiver ≡ Some j) × (j ≤ i)
 unfolding is_torn
 torn_places order s e = between_true (place_of order s.source) (place_of order s.receiver) e
 
@@ -49,7 +48,7 @@ torn_receiver order s e = let r = torn_places order s e in found_mem order s.rec
 
 -- one stands before another where its place is lower
 pub stands_lower : {order : List ℕ} {u v : ℕ} → Distinct order → StandsBefore order u v
-    → (i : ℕ) × (j : ℕ) × (place_of order u ≡ At i) × (place_of order v ≡ At j) × (i < j)
+    → (i : ℕ) × (j : ℕ) × (place_of order u ≡ Some i) × (place_of order v ≡ Some j) × (i < j)
 stands_lower {order} {u} {v} d b =
     let k = at_mem 0 b.later in
     let seam = ap length b.split ∙ length-append b.front (u ∷ b.back) in
@@ -65,7 +64,7 @@ stands_lower {order} {u} {v} d b =
       omega arith,
     )
 
-pub lower_stands : (order : List ℕ) (u v i j : ℕ) → place_of order u ≡ At i → place_of order v ≡ At j → i < j → StandsBefore order u v
+pub lower_stands : (order : List ℕ) (u v i j : ℕ) → place_of order u ≡ Some i → place_of order v ≡ Some j → i < j → StandsBefore order u v
 lower_stands order u v i j e f h =
     let a = place_found order u i e in
     let b = place_found order v j f in

@@ -13,8 +13,7 @@ use lib.Dec.{eqb}
 use lib.ListN.{length, get_or, replicate, length-set, length-map, length-replicate, get_or-replicate}
 use lib.Seq.{get_or-set_same, get_or-set_other}
 use Rattle.flowsheet.specs.Sheet.{place_of}
-use Rattle.flowsheet.specs.declared.Place.{Place}
-use Rattle.flowsheet.specs.declared.Place.TheVariants.{At, Nowhere}
+use Rattle.std.specs.Prelude.{Option, Some, None}
 use Rattle.flowsheet.specs.declared.Stream.{Stream}
 use Rattle.tearing.specs.Order.{Perm, upto, choose, stands_before, sum, torn, place_of as standsAt}
 use Rattle.tearing.specs.Row.{weights}
@@ -30,10 +29,10 @@ use Rattle.planner.proofs.Orders.{perm_mem, mem_perm, perm_map, block_at_lem}
 -- ---- the row
 
 -- what a stream between two places of the block adds to the weight from i to j
-abbrev added_at : Place → Place → ℕ → ℕ → ℕ → ℕ
-added_at (At a) (At b) x i j = choose (eqb a i) (choose (eqb b j) x 0) 0
-added_at (At a) Nowhere x i j = 0
-added_at Nowhere q x i j = 0
+abbrev added_at : Option ℕ → Option ℕ → ℕ → ℕ → ℕ → ℕ
+added_at (Some a) (Some b) x i j = choose (eqb a i) (choose (eqb b j) x 0) 0
+added_at (Some a) None x i j = 0
+added_at None q x i j = 0
 
 abbrev added : List ℕ → Stream → ℕ → ℕ → ℕ
 added block s i j = added_at (place_of block s.source) (place_of block s.receiver) s.weight i j
@@ -43,20 +42,20 @@ abbrev between : List ℕ → List Stream → ℕ → ℕ → ℕ
 between block [] i j = 0
 between block (s ∷ ss) i j = added block s i j + between block ss i j
 
-length_charge : (p q : Place) (x : ℕ) (w : List ℕ) → length (charge_at p q x w) ≡ length w
-length_charge (At a) (At b) x w = length-set w (a * 12 + b) (get_or w (a * 12 + b) 0 + x)
-length_charge (At a) Nowhere x w = refl
-length_charge Nowhere q x w = refl
+length_charge : (p q : Option ℕ) (x : ℕ) (w : List ℕ) → length (charge_at p q x w) ≡ length w
+length_charge (Some a) (Some b) x w = length-set w (a * 12 + b) (get_or w (a * 12 + b) 0 + x)
+length_charge (Some a) None x w = refl
+length_charge None q x w = refl
 
 pub length-charged : (block w : List ℕ) (s : Stream) → length (charged block w s) ≡ length w
 unfolding charged
 length-charged block w s = length_charge (place_of block s.source) (place_of block s.receiver) s.weight w
 
-charge_adds : (p q : Place) (x : ℕ) (w : List ℕ) → length w ≡ 144 → ((k : ℕ) → p ≡ At k → k < 12) → ((k : ℕ) → q ≡ At k → k < 12)
+charge_adds : (p q : Option ℕ) (x : ℕ) (w : List ℕ) → length w ≡ 144 → ((k : ℕ) → p ≡ Some k → k < 12) → ((k : ℕ) → q ≡ Some k → k < 12)
     → (i j : ℕ) → i < 12 → j < 12 → get_or (charge_at p q x w) (i * 12 + j) 0 ≡ get_or w (i * 12 + j) 0 + added_at p q x i j
-charge_adds (At a) Nowhere x w size f g i j h k = omega arith
-charge_adds Nowhere q x w size f g i j h k = omega arith
-charge_adds (At a) (At b) x w size f g i j h k = go (eqb a i) refl (eqb b j) refl
+charge_adds (Some a) None x w size f g i j h k = omega arith
+charge_adds None q x w size f g i j h k = omega arith
+charge_adds (Some a) (Some b) x w size f g i j h k = go (eqb a i) refl (eqb b j) refl
   where
     a12 : a < 12
     a12 = f a refl
@@ -64,11 +63,11 @@ charge_adds (At a) (At b) x w size f g i j h k = go (eqb a i) refl (eqb b j) ref
     b12 : b < 12
     b12 = g b refl
 
-    other : (i * 12 + j ≡ a * 12 + b → ⊥) → get_or (charge_at (At a) (At b) x w) (i * 12 + j) 0 ≡ get_or w (i * 12 + j) 0
+    other : (i * 12 + j ≡ a * 12 + b → ⊥) → get_or (charge_at (Some a) (Some b) x w) (i * 12 + j) 0 ≡ get_or w (i * 12 + j) 0
     other n = get_or-set_other w (a * 12 + b) (i * 12 + j) (get_or w (a * 12 + b) 0 + x) 0 n
 
     go : (t : Bool) → eqb a i ≡ t → (v : Bool) → eqb b j ≡ v
-        → get_or (charge_at (At a) (At b) x w) (i * 12 + j) 0 ≡ get_or w (i * 12 + j) 0 + choose t (choose v x 0) 0
+        → get_or (charge_at (Some a) (Some b) x w) (i * 12 + j) 0 ≡ get_or w (i * 12 + j) 0 + choose t (choose v x 0) 0
     go true d true e =
         let at : i * 12 + j ≡ a * 12 + b = omega (arith, eqb-true a i d, eqb-true b j e) in
         rw at (get_or-set_same w (a * 12 + b) (get_or w (a * 12 + b) 0 + x) 0 (omega (arith, a12, b12)))
@@ -109,7 +108,7 @@ choose_nothing true = refl
 choose_nothing false = refl
 
 -- a unit stands in place i exactly when the number found is i
-same_test : (block : List ℕ) → Distinct block → (u a i : ℕ) → place_of block u ≡ At a → i < length block → eqb a i ≡ eqb u (get_or block i 0)
+same_test : (block : List ℕ) → Distinct block → (u a i : ℕ) → place_of block u ≡ Some a → i < length block → eqb a i ≡ eqb u (get_or block i 0)
 same_test block d u a i e h = go (eqb a i) refl
   where
     go : (t : Bool) → eqb a i ≡ t → t ≡ eqb u (get_or block i 0)
@@ -119,15 +118,15 @@ same_test block d u a i e h = go (eqb a i) refl
         let f = place_found block u a e in
         sym (ne_eqb u (get_or block i 0) (λ x. eqb-false a i q (distinct_place block d a i f.0 h (f.1 ∙ x))))
 
-no_test : (block : List ℕ) (u i : ℕ) → place_of block u ≡ Nowhere → i < length block → eqb u (get_or block i 0) ≡ false
+no_test : (block : List ℕ) (u i : ℕ) → place_of block u ≡ None → i < length block → eqb u (get_or block i 0) ≡ false
 no_test block u i e h = ne_eqb u (get_or block i 0) (λ x. place_nowhere block u e i h (sym x))
 
 added_units : (block : List ℕ) → Distinct block → (s : Stream) (i j : ℕ) → i < length block → j < length block
     → added block s i j ≡ choose (eqb s.source (get_or block i 0)) (choose (eqb s.receiver (get_or block j 0)) s.weight 0) 0
 added_units block d s i j h k = go (place_cases block s.source) (place_cases block s.receiver)
   where
-    go : ((a : ℕ) × (place_of block s.source ≡ At a)) ⊎ (place_of block s.source ≡ Nowhere)
-        → ((b : ℕ) × (place_of block s.receiver ≡ At b)) ⊎ (place_of block s.receiver ≡ Nowhere)
+    go : ((a : ℕ) × (place_of block s.source ≡ Some a)) ⊎ (place_of block s.source ≡ None)
+        → ((b : ℕ) × (place_of block s.receiver ≡ Some b)) ⊎ (place_of block s.receiver ≡ None)
         → added block s i j ≡ choose (eqb s.source (get_or block i 0)) (choose (eqb s.receiver (get_or block j 0)) s.weight 0) 0
     go (inl p) (inl q) =
         rw (
@@ -237,7 +236,7 @@ module _ (block : List ℕ) (d : Distinct block) where
   units_perm {o} p = subst (λ (l : List ℕ). Perm l (map unit o)) (block_at_lem block) (perm_map unit p)
 
   -- a unit stands in it where its place does
-  stands_same : {o : List ℕ} → Perm (upto (length block)) o → (u a : ℕ) → place_of block u ≡ At a → place_of (map unit o) u ≡ At (standsAt a o)
+  stands_same : {o : List ℕ} → Perm (upto (length block)) o → (u a : ℕ) → place_of block u ≡ Some a → place_of (map unit o) u ≡ Some (standsAt a o)
   stands_same {o} p u a e =
       let f = place_found block u a e in
       let k = at_mem 0 (perm_mem p a (mem_upto (length block) a f.0)) in
@@ -246,9 +245,9 @@ module _ (block : List ℕ) (d : Distinct block) where
       ∙ place_at o k.0 (distinct_perm p (rising_distinct (upto (length block)) (rising_upto (length block)))) k.1 in
       place_is (map unit o) (distinct_perm (units_perm p) d) u k.0 (omega (arith, k.1, length-map o unit))
       (at_map unit o k.0 k.1 ∙ ap unit k.2 ∙ f.1)
-      ∙ ap At (sym at)
+      ∙ ap Some (sym at)
 
-  stands_nowhere : {o : List ℕ} → Perm (upto (length block)) o → (u : ℕ) → place_of block u ≡ Nowhere → place_of (map unit o) u ≡ Nowhere
+  stands_nowhere : {o : List ℕ} → Perm (upto (length block)) o → (u : ℕ) → place_of block u ≡ None → place_of (map unit o) u ≡ None
   stands_nowhere {o} p u e =
       not_found (map unit o) u (λ m. let k = at_mem 0 (mem_perm (units_perm p) u m) in place_nowhere block u e k.0 k.1 k.2)
 
@@ -262,12 +261,12 @@ module _ (block : List ℕ) (d : Distinct block) where
       turned true x = refl
       turned false x = refl
 
-      nowhere : (q : Place) (x : ℕ) → cond (torn_between q Nowhere) x 0 ≡ 0
-      nowhere (At i) x = refl
-      nowhere Nowhere x = refl
+      nowhere : (q : Option ℕ) (x : ℕ) → cond (torn_between q None) x 0 ≡ 0
+      nowhere (Some i) x = refl
+      nowhere None x = refl
 
-      go : ((a : ℕ) × (place_of block s.source ≡ At a)) ⊎ (place_of block s.source ≡ Nowhere)
-          → ((b : ℕ) × (place_of block s.receiver ≡ At b)) ⊎ (place_of block s.receiver ≡ Nowhere)
+      go : ((a : ℕ) × (place_of block s.source ≡ Some a)) ⊎ (place_of block s.source ≡ None)
+          → ((b : ℕ) × (place_of block s.receiver ≡ Some b)) ⊎ (place_of block s.receiver ≡ None)
           → torn (λ i j. added block s i j) (upto (length block)) o
           ≡ cond (torn_between (place_of (map unit o) s.source) (place_of (map unit o) s.receiver)) s.weight 0
       go (inl a) (inl b) =

@@ -1,10 +1,9 @@
 -- The plan image. "Header, 16 bytes: edition (1), U, block count, torn count, offsets of the block, order and torn tables, total length. The
 -- tables follow in that order without gaps." All of it is 16-bit numbers, so the image is the bytes of a list of numbers.
-use Rattle.std.specs.Prelude.{List, [], ◌∷◌, ◌++◌, ℕ, ◌+◌, ◌*◌, ◌/◌, ◌≤◌, length, drop}
+use Rattle.std.specs.Prelude.{List, [], ◌∷◌, ◌++◌, ℕ, ◌+◌, ◌*◌, ◌/◌, length, drop}
 use Rattle.std.proofs.lemmas.List.Edits.{sets}
 use Rattle.flowsheet.specs.Written.{flat}
 use Rattle.words.specs.Words.{bytes_of}
-use Rattle.planner.specs.Tables.{held_numbers}
 use Rattle.planner.specs.declared.Plan.{Plan}
 
 -- how many bytes the image of a plan with so many numbers in its tables has
@@ -20,7 +19,7 @@ unfoldable pub plan_numbers : List ℕ → List ℕ → List ℕ → List ℕ
 plan_numbers blocks order torn = plan_header (length blocks) (length order) (length torn) ++ (blocks ++ (order ++ torn))
 
 unfoldable pub plan_bytes : Plan → List ℕ
-plan_bytes p = flat (bytes_of 2) (plan_numbers (held_numbers p.blocks) (held_numbers p.order) (held_numbers p.torn))
+plan_bytes p = flat (bytes_of 2) (plan_numbers p.blocks p.order p.torn)
 
 -- the row l with numbers of 16 bits stored one after the other from the byte i on
 abbrev pub with_numbers : List ℕ → ℕ → List ℕ → List ℕ
@@ -30,12 +29,6 @@ with_numbers l i xs = sets l i (flat (bytes_of 2) xs)
 unfoldable pub laid_over : List ℕ → List ℕ → List ℕ
 laid_over bytes buffer = bytes ++ drop (length bytes) buffer
 
--- each table counts no more numbers than it has places
-pub record Counted (p : Plan) : Type 0 where
-  pub blocks : p.blocks.count ≤ 256
-  pub order : p.order.count ≤ 256
-  pub torn : p.torn.count ≤ 256
-
 -- how many bytes the image of this plan has
 abbrev pub plan_length : Plan → ℕ
-plan_length p = image_length p.blocks.count p.order.count p.torn.count
+plan_length p = image_length (length p.blocks) (length p.order) (length p.torn)

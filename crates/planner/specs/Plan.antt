@@ -1,11 +1,9 @@
 -- The plan of a flowsheet: rules 1 to 4, in the order in which the planner goes. A block is the list of its units' numbers.
-use Rattle.std.specs.Prelude.{Bool, false, cond, not, ◌||◌, List, [], ◌∷◌, map, ℕ, ◌+◌, ◌*◌, ltb, length, get_or, set, replicate}
+use Rattle.std.specs.Prelude.{Bool, false, cond, not, ◌||◌, List, [], ◌∷◌, map, ℕ, ◌+◌, ◌*◌, ltb, length, get_or, set, replicate, Option, Some, None}
 use Rattle.blocks.specs.Blocks.{members_of}
 use Rattle.blocks.specs.Order.{order_of}
 use Rattle.blocks.specs.Reach.{reach_of}
 use Rattle.flowsheet.specs.Sheet.{place_of}
-use Rattle.flowsheet.specs.declared.Place.{Place}
-use Rattle.flowsheet.specs.declared.Place.TheVariants.{At, Nowhere}
 use Rattle.flowsheet.specs.declared.Stream.{Stream}
 use Rattle.tearing.specs.Best.{best}
 use Rattle.tearing.specs.Row.{weights}
@@ -23,10 +21,10 @@ units_in us ms = map (λ (p : ℕ). get_or us p 0) ms
 -- ---- the weights between the units of a block, twelve by twelve
 
 -- the row w with a stream's weight more, where both its ends are in the block
-abbrev pub charge_at : Place → Place → ℕ → List ℕ → List ℕ
-charge_at (At i) (At j) x w = set w (i * 12 + j) (get_or w (i * 12 + j) 0 + x)
-charge_at (At i) Nowhere x w = w
-charge_at Nowhere q x w = w
+abbrev pub charge_at : Option ℕ → Option ℕ → ℕ → List ℕ → List ℕ
+charge_at (Some i) (Some j) x w = set w (i * 12 + j) (get_or w (i * 12 + j) 0 + x)
+charge_at (Some i) None x w = w
+charge_at None q x w = w
 
 unfoldable pub charged : List ℕ → List ℕ → Stream → List ℕ
 charged block w s = charge_at (place_of block s.source) (place_of block s.receiver) s.weight w
@@ -44,10 +42,10 @@ row_of block ss = charged_all block (replicate 144 0) ss
 unfoldable pub ordered_of : List ℕ → List Stream → List ℕ
 ordered_of block ss = map (λ (i : ℕ). get_or block i 0) (best (weights (row_of block ss)) (length block))
 
-abbrev pub torn_between : Place → Place → Bool
-torn_between (At i) (At j) = not (ltb i j)
-torn_between (At i) Nowhere = false
-torn_between Nowhere q = false
+abbrev pub torn_between : Option ℕ → Option ℕ → Bool
+torn_between (Some i) (Some j) = not (ltb i j)
+torn_between (Some i) None = false
+torn_between None q = false
 
 -- "the torn streams are the streams with both ends in the block whose source doesn't stand before their receiver"
 unfoldable pub is_torn : List ℕ → Stream → Bool

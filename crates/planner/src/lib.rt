@@ -1,6 +1,10 @@
 // The plan of a flowsheet, its image, and the part of it that a screen asks for.
 #![tactic(auto)]
 
+ghost use Rattle.planner.specs.Answer.{number_of};
+ghost use Rattle.std.specs.Prelude.{◌≡◌};
+ghost use Rattle.planner.specs.declared.Refusal.TheVariants.{Image};
+
 mod block;
 mod links;
 mod planning;
@@ -9,15 +13,12 @@ mod sheet;
 mod written;
 
 pub use planning::{plan_image, plan_read};
+use rows::Row;
 pub use screen::part;
 pub use sheet::plan_of;
 
-// At most 256 numbers of 16 bits; the places beyond the count are zero.
-#[derive(Clone, Copy)]
-pub struct Numbers {
-    pub count: usize,
-    pub numbers: [u16; 256],
-}
+// At most 256 numbers of 16 bits.
+pub type Numbers = Row<u16, 256>;
 
 // A plan as its three tables: four numbers for each block, the units in order, the torn streams block by block.
 #[derive(Clone, Copy)]
@@ -28,15 +29,39 @@ pub struct Plan {
 }
 
 // What a screen asks for of a block: its units, or its torn streams.
-#[derive(Clone, Copy)]
+#[derive(Clone, Copy, Debug, PartialEq, Eq)]
 pub enum Asked {
     Units,
     Tears,
 }
 
-// What planning a flowsheet answers: 0 and the plan, or the refusal's number and an empty plan.
-#[derive(Clone, Copy)]
-pub struct Planned {
-    pub number: u32,
-    pub plan: Plan,
+// Why a flowsheet isn't planned.
+#[derive(Clone, Copy, Debug, PartialEq, Eq)]
+pub enum Refusal {
+    // 1 to 10: its image isn't read.
+    Image(flowsheet::Refusal),
+    // 11: a block over 12 units.
+    LargeBlock,
+    // 12: plan buffer shorter than the plan, or working memory under 65,536 bytes.
+    NoRoom,
+}
+
+impl From<flowsheet::Refusal> for Refusal {
+    ghost from_gives = { λ refusal r. r ≡ Image refusal };
+
+    fn from(refusal: flowsheet::Refusal) -> Refusal {
+        Refusal::Image(refusal)
+    }
+}
+
+impl From<Refusal> for u32 {
+    ghost from_gives = { λ refusal number. number ≡ number_of refusal };
+
+    fn from(refusal: Refusal) -> u32 {
+        match refusal {
+            Refusal::Image(refusal) => u32::from(refusal),
+            Refusal::LargeBlock => 11,
+            Refusal::NoRoom => 12,
+        }
+    }
 }

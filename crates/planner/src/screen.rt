@@ -5,18 +5,12 @@ ghost use Rattle.planner.specs.Part.{Spanned, Handed};
 
 use crate::Asked;
 
-fn wide(number: u16) -> usize
-    ensures { (result ≡ number) × (result < 65536) }
-{
-    number as usize
-}
-
 // The part of a row that starts at `first` and has `count` numbers, or the empty front of the order row where it runs beyond the row.
 fn span<'a>(order: &'a [u16], row: &'a [u16], first: u16, count: u16) -> &'a [u16]
     ensures { Spanned order.entry row.entry first count result }
 {
-    let start = wide(first);
-    let end = start + wide(count);
+    let start = usize::from(first);
+    let end = start + usize::from(count);
     if end <= row.len() {
         &row[start..end]
     } else {
@@ -35,7 +29,7 @@ pub fn part<'a>(
 ) -> &'a [u16]
     ensures { Handed asked blocks.entry order.entry torn.entry place result }
 {
-    let at = 4 * wide(place);
+    let at = 4 * usize::from(place);
     if blocks.len() < at + 4 {
         return &order[..0];
     }

@@ -12,15 +12,15 @@ returns-then-blocks-at c =
 pub returns-in-Units : goal.returns-in-Units
 returns-in-Units c =
     let a = c.args in
-    let at = c.wide-at in
+    let at = c.from-at in
     let e : a.asked ≡ Units = c.in-Units.is in
-    rw (e, ← at.ensures.0)
+    rw (e, ← at.ensures)
     (units a.blocks a.order a.torn _ at.result c.if-blocks-at.false c.span.ensures)
 
 pub returns-in-Tears : goal.returns-in-Tears
 returns-in-Tears c =
     let a = c.args in
-    let at = c.wide-at in
+    let at = c.from-at in
     let e : a.asked ≡ Tears = c.in-Tears.is in
-    rw (e, ← at.ensures.0)
+    rw (e, ← at.ensures)
     (tears a.blocks a.order a.torn _ at.result c.if-blocks-at.false c.span-in-Tears.ensures)

@@ -1,17 +1,11 @@
--- The loop has planned k blocks; the memory is as long as it was, and as it was beyond its first 65,536 bytes. The measure is the blocks left.
-use Rattle.std.proofs.Common.{◌≡◌, ◌-◌, ◌≤◌, length, take, drop}
-use Rattle.flowsheet.specs.Sheet.{held_units, held_streams}
+-- The blocks passed are planned, and the working memory is as it was beyond its first 65,536 bytes.
+use Rattle.std.proofs.Common.{◌≡◌, take, drop}
 use Rattle.planner.specs.Plan.{blocks_of}
 use Rattle.planner.specs.Tables.{plan_value}
 use Rattle.planner.proofs.Parted.{plans_of}
 use Rattle.planner.proofs.sheet.plan_blocks.Given as goal
 
-abbrev pub invariant-loop-k : goal.invariant-loop-k
-invariant-loop-k l =
-    (l.k ≤ l.count)
-    × (l.plan ≡ plan_value (plans_of (held_streams l.sheet.streams) (take l.k (blocks_of (held_units l.sheet.units) (held_streams l.sheet.streams)))))
-    × (length l.work ≡ length l.fn.work)
-    × (drop 65536 l.work ≡ drop 65536 l.fn.work)
-
-abbrev pub decreases-loop-k : goal.decreases-loop-k
-decreases-loop-k l = l.count - l.k
+abbrev pub invariant-loop-place : goal.invariant-loop-place
+invariant-loop-place l =
+    (l.plan ≡ plan_value (plans_of l.sheet.streams (take l.place-index (blocks_of l.sheet.units l.sheet.streams))))
+    × (drop 65536 l.work ≡ drop 65536 l.initial.work)
