@@ -3,17 +3,20 @@ use mathlib.Core.Bool.{Bool, true, false, not, ◌||◌}
 use mathlib.Core.List.{List, [], ◌∷◌}
 use mathlib.Core.Path.{◌≡◌, refl, sym, ◌∙◌, ap, subst}
 use Prim.Native.Nat.{ℕ}
+use native.Mathlib.Omega.{arith}
 use borrow.Author.Tests.{eqb-true, eq-eqb, ne_eqb, not-false}
 use lib.Dec.{T, eqb}
 use lib.Ieee.{Float}
 use lib.ListN.{length, set}
-use Rattle.converge.specs.Answer.{answer_of}
+use Rattle.converge.specs.Answer.{Answer, answer_of, number_of, refused, moved}
 use Rattle.converge.specs.Promise.{ValueStep}
 use Rattle.converge.specs.Row.{Stepped}
+use Rattle.converge.specs.declared.Refusal.{Refusal}
+use Rattle.converge.specs.declared.Refusal.TheVariants.{Rows, Tolerance, Limit, Values, Records}
 use Rattle.converge.specs.declared.Step.{Step}
+use Rattle.converge.specs.declared.Verdict.TheVariants.{Moved, Refused}
 use Rattle.words.specs.Words.{with_number}
-use Rattle.najmudhil.specs.Step.{Lent, BytesStep, lent, values_of, with_doubles, with_answer, numbered_of, lengths_wrong, leaves, held_step, bytes_stepped}
-use Rattle.najmudhil.specs.declared.Numbered.{Numbered}
+use Rattle.najmudhil.specs.Step.{Lent, BytesStep, lent, values_of, with_doubles, with_answer, lengths_wrong, leaves, held_step, bytes_stepped}
 
 or_false : (a b : Bool) → (a || b) ≡ false → (a ≡ false) × (b ≡ false)
 or_false true b e = absurd (subst T e tt)
@@ -46,6 +49,14 @@ module _ (s : Stepped) (x past count answer : List ℕ) where
   unfolding leaves
   leaves-moved z k = rw (eq-eqb _ _ z, eq-eqb _ _ k)
 
+-- a refusal's number is not 0
+refusal_some : (e : Refusal) → number_of e ≡ 0 → ⊥
+refusal_some Rows z = omega arith
+refusal_some Tolerance z = omega arith
+refusal_some Limit z = omega arith
+refusal_some Values z = omega arith
+refusal_some Records z = omega arith
+
 -- a result that stands as a statement says
 as_said : {s : Lent} (code : ℕ) (x past count answer : List ℕ) → s ≡ lent code x past count answer → BytesStep s code x past count answer
 as_said code x past count answer e =
@@ -76,43 +87,32 @@ module _ (x : List ℕ) (y : Float) (past count : List ℕ) (method : ℕ) (tole
   pub out_short : wrong ≡ true → BytesStep out 30 x past count answer
   out_short w = as_said 30 x past count answer (bytes_wrong w)
 
-  -- r is what the step by value gives for what the bytes hold, and n its verdict in numbers
-  module _
-      (w : wrong ≡ false)
-      (r : Step) (p : ValueStep held r)
-      (n : Numbered) (e : n ≡ numbered_of (answer_of r.verdict))
-    where
-      in_numbers : n ≡ numbered_of held.answer
-      in_numbers = e ∙ ap numbered_of p.verdict
+  -- r is what the step by value gives for what the bytes hold
+  module _ (w : wrong ≡ false) (r : Step) (p : ValueStep held r) where
+    pub out_refused : (e : Refusal) → r.verdict ≡ Refused e → BytesStep out (number_of e) x past count answer
+    out_refused e v =
+        let a : held.answer ≡ refused (number_of e) = sym p.verdict ∙ ap answer_of v in
+        as_said (number_of e) x past count answer
+        (rw (ap (λ (m : Answer). m.refusal) a) at (bytes_right w ∙ leaves-refused _ x past count answer (λ z. refusal_some e (sym (ap (λ (m : Answer). m.refusal) a) ∙ z))))
 
-      refusal_is : n.refusal ≡ held.answer.refusal
-      refusal_is = ap (λ (m : Numbered). m.refusal) in_numbers
+    -- at a verdict with a number other than 4 the answer alone is written
+    pub out_kept : (number : ℕ) (carried : Float) → (number ≡ 4 → ⊥)
+        → answer_of r.verdict ≡ record { refusal = 0; number = number; carried = carried }
+        → BytesStep out 0 x past count (with_doubles (set answer 0 number) 1 (carried ∷ []))
+    out_kept number carried k v =
+        let a : held.answer ≡ record { refusal = 0; number = number; carried = carried } = sym p.verdict ∙ v in
+        as_said 0 x past count (with_doubles (set answer 0 number) 1 (carried ∷ []))
+        (bytes_right w
+        ∙ leaves_kept _ x past count answer (ap (λ (m : Answer). m.refusal) a) (λ f. k (sym (ap (λ (m : Answer). m.number) a) ∙ f))
+        ∙ ap (λ (m : Answer). lent 0 x past count (with_answer answer m)) a)
 
-      number_is : n.number ≡ held.answer.number
-      number_is = ap (λ (m : Numbered). m.number) in_numbers
-
-      carried_is : n.carried ≡ held.answer.carried
-      carried_is = ap (λ (m : Numbered). m.carried) in_numbers
-
-      pub out_refused : (n.refusal ≡ 0 → ⊥) → BytesStep out n.refusal x past count answer
-      out_refused k =
-          as_said n.refusal x past count answer
-          (rw refusal_is (bytes_right w ∙ leaves-refused _ x past count answer (λ z. k (refusal_is ∙ z))))
-
-      pub out_kept : n.refusal ≡ 0 → (n.number ≡ 4 → ⊥)
-          → BytesStep out 0 x past count (with_doubles (set answer 0 n.number) 1 (n.carried ∷ []))
-      out_kept z k =
-          as_said 0 x past count (with_doubles (set answer 0 n.number) 1 (n.carried ∷ []))
-          (rw (number_is, carried_is)
-          (bytes_right w
-          ∙ leaves_kept _ x past count answer (sym refusal_is ∙ z) (λ f. k (number_is ∙ f))))
-
-      pub out_moved : n.refusal ≡ 0 → n.number ≡ 4
-          → BytesStep out 0
-          (with_doubles x 0 (r.x ∷ [])) (with_doubles past 0 (values_of (r.past ∷ []))) (with_number 2 count 0 r.count)
-          (with_doubles (set answer 0 n.number) 1 (n.carried ∷ []))
-      out_moved z k =
-          let q = bytes_right w ∙ leaves-moved _ x past count answer (sym refusal_is ∙ z) (sym number_is ∙ k) in
-          as_said 0 (with_doubles x 0 (r.x ∷ [])) (with_doubles past 0 (values_of (r.past ∷ []))) (with_number 2 count 0 r.count)
-          (with_doubles (set answer 0 n.number) 1 (n.carried ∷ []))
-          (rw (← p.x, ← p.past, ← p.count, ← number_is, ← carried_is) at q)
+    pub out_moved : (carried : Float) → r.verdict ≡ Moved carried
+        → BytesStep out 0
+        (with_doubles x 0 (r.x ∷ [])) (with_doubles past 0 (values_of (r.past ∷ []))) (with_number 2 count 0 r.count)
+        (with_doubles (set answer 0 4) 1 (carried ∷ []))
+    out_moved carried v =
+        let a : held.answer ≡ moved carried = sym p.verdict ∙ ap answer_of v in
+        let q = bytes_right w ∙ leaves-moved _ x past count answer (ap (λ (m : Answer). m.refusal) a) (ap (λ (m : Answer). m.number) a) in
+        as_said 0 (with_doubles x 0 (r.x ∷ [])) (with_doubles past 0 (values_of (r.past ∷ []))) (with_number 2 count 0 r.count)
+        (with_doubles (set answer 0 4) 1 (carried ∷ []))
+        (rw (← p.x, ← p.past, ← p.count, a) at q)

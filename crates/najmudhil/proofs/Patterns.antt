@@ -1,8 +1,8 @@
 -- Doubles and their bit patterns, where the kit's library has no such law. Assumes nothing.
-use mathlib.Core.Bool.{true, false, not}
+use mathlib.Core.Bool.{true}
 use mathlib.Core.Path.{◌≡◌, refl, sym, subst}
 use lib.Dec.{T}
-use lib.Ieee.{Float, nan, inf, fin, binary64, of_bits, div, ne, is_nan}
+use lib.Ieee.{Float, nan, inf, fin, binary64, of_bits, div, is_nan}
 use Rattle.converge.specs.Doubles.{zero64}
 
 pub is_nan_lem : (v : Float) → is_nan v ≡ true → v ≡ nan
@@ -14,10 +14,3 @@ is_nan_lem (fin s m e) h = absurd (subst T (sym h) tt)
 pub zero_over_zero : div binary64 zero64 zero64 ≡ nan
 unfolding div of_bits
 zero_over_zero = refl
-
--- what doesn't differ from itself is no NaN
-pub same_number : (v : Float) → ne v v ≡ false → T (not (is_nan v))
-unfolding is_nan ne
-same_number nan h = absurd (subst T h tt)
-same_number (inf s) h = tt
-same_number (fin s m e) h = tt

@@ -7,7 +7,6 @@ use Rattle.converge.specs.Promise.{value_stepped}
 use Rattle.converge.specs.Row.{Stepped}
 use Rattle.converge.specs.declared.History.{History}
 use Rattle.words.specs.Words.{number_at, with_number}
-use Rattle.najmudhil.specs.declared.Numbered.{Numbered}
 
 -- The double in the 8 bytes from a place on. What is a NaN's pattern holds no number.
 unfoldable pub double_at : List ℕ → ℕ → Float
@@ -29,10 +28,6 @@ with_doubles l at (v ∷ vs) = with_doubles (with_number 8 l at (to_bits binary6
 -- The answer as 9: 1 Settled, 2 Spent, 3 Strayed or 4 Moved, then the carried double.
 abbrev pub with_answer : List ℕ → Answer → List ℕ
 with_answer l a = with_doubles (set l 0 a.number) 1 (a.carried ∷ [])
-
--- An answer, field by field.
-abbrev pub numbered_of : Answer → Numbered
-numbered_of a = record { refusal = a.refusal; number = a.number; carried = a.carried }
 
 -- x is lent as 8 bytes, the record as 16, the count as 2, the answer as 9; a wrong length is 30.
 unfoldable pub lengths_wrong : ℕ → ℕ → ℕ → ℕ → Bool

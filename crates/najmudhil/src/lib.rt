@@ -7,19 +7,11 @@ ghost use Rattle.std.specs.Float.{binary64};
 ghost use Rattle.std.specs.Float.Ieee.{of_bits, to_bits};
 ghost use Rattle.words.specs.Words.{with_number};
 ghost use Rattle.planner.specs.Answer.{Planning};
-ghost use Rattle.converge.specs.Answer.{answer_of};
 ghost use Rattle.converge.specs.Promise.{ValueStep};
-ghost use Rattle.najmudhil.specs.Step.{double_at, values_of, with_doubles, numbered_of, lengths_wrong, held_step, bytes_stepped, BytesStep};
+ghost use Rattle.najmudhil.specs.Step.{double_at, values_of, with_doubles, lengths_wrong, held_step, bytes_stepped, BytesStep};
 
-use converge::{History, Step, Verdict};
-
-// An answer in numbers: the refusal's, or 0; the verdict's, or 0 where the step is refused; and what the verdict carries.
-#[derive(Clone, Copy)]
-struct Numbered {
-    refusal: u32,
-    number: u8,
-    carried: f64,
-}
+use converge::{History, Step, Terms, Verdict};
+use words::Word;
 
 // The double of a bit pattern. A NaN's pattern is never read as a number: all of them are one.
 fn of_pattern(bits: u64) -> f64
@@ -35,7 +27,7 @@ fn of_pattern(bits: u64) -> f64
 fn pattern(v: f64) -> u64
     ensures { result ≡ to_bits binary64 v }
 {
-    if v != v {
+    if v.is_nan() {
         return 0x7ff8_0000_0000_0000;
     }
     f64::to_bits(v)
@@ -47,7 +39,7 @@ fn double_at(row: &[u8], at: usize) -> f64
     requires { at + 8 ≤ length row.now }
     ensures { result ≡ double_at row.now at }
 {
-    of_pattern(words::u64_at(row, at))
+    of_pattern(u64::at(row, at))
 }
 
 // Writes a double into the 8 bytes at `at`; every other byte stays.
@@ -55,7 +47,7 @@ fn put_double(row: &mut [u8], at: usize, v: f64)
     requires { at + 8 ≤ length row.old }
     ensures { row.new ≡ with_doubles row.old at (v ∷ []) }
 {
-    words::put_u64(row, at, pattern(v));
+    pattern(v).put(row, at);
 }
 
 // Whether one of the lengths isn't the one agreed on.
@@ -63,69 +55,19 @@ fn put_double(row: &mut [u8], at: usize, v: f64)
 fn lengths_wrong(x: usize, past: usize, count: usize, answer: usize) -> bool
     ensures { result ≡ lengths_wrong x past count answer }
 {
-    if x != 8 {
-        return true;
-    }
-    if past != 16 {
-        return true;
-    }
-    if count != 2 {
-        return true;
-    }
-    answer != 9
-}
-
-// A verdict in numbers.
-fn numbers_of(verdict: Verdict) -> Numbered
-    ensures { result ≡ numbered_of (answer_of verdict) }
-{
-    match verdict {
-        Verdict::Settled(d) => Numbered {
-            refusal: 0,
-            number: 1,
-            carried: d,
-        },
-        Verdict::Spent(d) => Numbered {
-            refusal: 0,
-            number: 2,
-            carried: d,
-        },
-        Verdict::Strayed(d) => Numbered {
-            refusal: 0,
-            number: 3,
-            carried: d,
-        },
-        Verdict::Moved(d) => Numbered {
-            refusal: 0,
-            number: 4,
-            carried: d,
-        },
-        Verdict::Refused(n) => Numbered {
-            refusal: n,
-            number: 0,
-            carried: 0.0,
-        },
-    }
+    x != 8 || past != 16 || count != 2 || answer != 9
 }
 
 // The step of what the bytes hold.
-fn held_step(
-    x: &[u8],
-    y: f64,
-    past: &[u8],
-    count: &[u8],
-    method: u32,
-    tolerance: f64,
-    limit: u32,
-) -> Step
+fn held_step(x: &[u8], y: f64, past: &[u8], count: &[u8], terms: Terms) -> Step
     requires { (8 ≤ length x.now) × (16 ≤ length past.now) × (2 ≤ length count.now) }
-    ensures { ValueStep (held_step x.now y past.now count.now method tolerance limit) result }
+    ensures { ValueStep (held_step x.now y past.now count.now terms.method terms.tolerance terms.limit) result }
 {
-    let v = double_at(x, 0);
-    let a = double_at(past, 0);
-    let b = double_at(past, 8);
-    let n = words::u16_at(count, 0);
-    converge::step_value(v, y, History { x: a, y: b }, n, method, tolerance, limit)
+    let record = History {
+        x: double_at(past, 0),
+        y: double_at(past, 8),
+    };
+    converge::step_value(double_at(x, 0), y, record, u16::at(count, 0), terms)
 }
 
 // Writes an answer: its number, then the double that it carries.
@@ -148,12 +90,13 @@ fn put_moved(x: &mut [u8], past: &mut [u8], count: &mut [u8], step: Step)
     put_double(x, 0, step.x);
     put_double(past, 0, step.past.x);
     put_double(past, 8, step.past.y);
-    words::put_u16(count, 0, step.count);
+    step.count.put(count, 0);
 }
 
 // The step of one value: x lent as 8 bytes, the record `past` as 16 (x, then y), the count as 2, the answer as 9 (the verdict's number,
 // then the carried double), all little-endian. Returns 0, or a refusal from 30 to 34 with all of these unchanged.
 #[unsafe(no_mangle)]
+#[tactic(auto, using(crate::proofs::Lent::lengths_right))]
 pub extern "C" fn najmudhil_step(
     x: &mut [u8],
     y: f64,
@@ -169,17 +112,22 @@ pub extern "C" fn najmudhil_step(
     if lengths_wrong(x.len(), past.len(), count.len(), answer.len()) {
         return 30;
     }
-    let s = held_step(x, y, past, count, method, tolerance, limit);
-    let verdict = s.verdict;
-    let a = numbers_of(verdict);
-    if a.refusal != 0 {
-        return a.refusal;
+    let terms = Terms {
+        method,
+        tolerance,
+        limit,
+    };
+    let step = held_step(x, y, past, count, terms);
+    match step.verdict {
+        Verdict::Settled(gap) => put_answer(answer, 1, gap),
+        Verdict::Spent(gap) => put_answer(answer, 2, gap),
+        Verdict::Strayed(next) => put_answer(answer, 3, next),
+        Verdict::Moved(gap) => {
+            put_answer(answer, 4, gap);
+            put_moved(x, past, count, step);
+        }
+        Verdict::Refused(refusal) => return u32::from(refusal),
     }
-    put_answer(answer, a.number, a.carried);
-    if a.number != 4 {
-        return 0;
-    }
-    put_moved(x, past, count, s);
     0
 }
 
@@ -189,5 +137,8 @@ pub extern "C" fn najmudhil_step(
 pub extern "C" fn najmudhil_plan(image: &[u8], plan: &mut [u8], work: &mut [u8]) -> u32
     ensures { Planning image.now plan.old work.old result plan.new work.new }
 {
-    planner::plan_image(image, plan, work)
+    match planner::plan_image(image, plan, work) {
+        Ok(()) => 0,
+        Err(refusal) => u32::from(refusal),
+    }
 }
