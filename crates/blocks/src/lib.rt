@@ -81,8 +81,8 @@ impl Reach {
         ensures { result ≡ column_of self.now.rows self.now.places place }
     {
         let mut set: u64 = 0;
-        for k in 0..self.places {
-            if has(self.rows[k], place) {
+        for (k, row) in self.rows[..self.places].iter().enumerate() {
+            if has(*row, place) {
                 set |= one(k);
             }
         }
@@ -94,8 +94,8 @@ impl Reach {
         ensures { (i : ℕ) → i < self.now.places → get_or result i 0 ≡ column_of self.now.rows self.now.places i }
     {
         let mut sets: [u64; 64] = [0; 64];
-        for i in 0..self.places {
-            sets[i] = self.column(i);
+        for (place, set) in sets[..self.places].iter_mut().enumerate() {
+            *set = self.column(place);
         }
         sets
     }
