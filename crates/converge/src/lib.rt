@@ -20,7 +20,7 @@ pub struct History {
     pub y: f64,
 }
 
-// How a row is stepped, as the host gives it: any numbers.
+// How a row is stepped, as the host gives it: any numbers. The method is one too, since a step answers an unknown one with 32.
 #[derive(Clone, Copy, Debug, PartialEq)]
 pub struct Terms {
     pub method: u32,

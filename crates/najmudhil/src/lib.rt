@@ -10,7 +10,7 @@ ghost use Rattle.planner.specs.Answer.{Planning};
 ghost use Rattle.converge.specs.Promise.{ValueStep};
 ghost use Rattle.najmudhil.specs.Step.{double_at, values_of, with_doubles, lengths_wrong, held_step, bytes_stepped, BytesStep};
 
-use converge::{History, Step, Terms, Verdict};
+use converge::{History, Refusal, Step, Terms, Verdict};
 use words::Word;
 
 // The double of a bit pattern. A NaN's pattern is never read as a number: all of them are one.
@@ -93,7 +93,8 @@ fn put_moved(x: &mut [u8], past: &mut [u8], count: &mut [u8], step: Step)
     step.count.put(count, 0);
 }
 
-// The step of one value: x lent as 8 bytes, the record `past` as 16 (x, then y), the count as 2, the answer as 9 (the verdict's number,
+// The step of one value, in plain numbers and rows of bytes and with a number for each verdict and refusal, as the C interface
+// has them: x lent as 8 bytes, the record `past` as 16 (x, then y), the count as 2, the answer as 9 (the verdict's number,
 // then the carried double), all little-endian. Returns 0, or a refusal from 30 to 34 with all of these unchanged.
 #[unsafe(no_mangle)]
 #[tactic(auto, using(crate::proofs::Lent::lengths_right))]
@@ -110,7 +111,7 @@ pub extern "C" fn najmudhil_step(
     ensures { BytesStep (bytes_stepped x.old y past.old count.old method tolerance limit answer.old) result x.new past.new count.new answer.new }
 {
     if lengths_wrong(x.len(), past.len(), count.len(), answer.len()) {
-        return 30;
+        return u32::from(Refusal::Rows);
     }
     let terms = Terms {
         method,

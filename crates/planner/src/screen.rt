@@ -33,6 +33,7 @@ pub fn part<'a>(
     if blocks.len() < at + 4 {
         return &order[..0];
     }
+    // A `match`, since what is asked for is data that a screen hands in: a closure in its place would have to be made from it.
     match asked {
         Asked::Units => span(order, order, blocks[at], blocks[at + 1]),
         Asked::Tears => span(order, torn, blocks[at + 2], blocks[at + 3]),

@@ -7,12 +7,13 @@ use Rattle.najmudhil.proofs.najmudhil_step.Goals as goal
 pub returns-then-lengths_wrong : goal.returns-then-lengths_wrong
 returns-then-lengths_wrong c =
     let a = c.args in
-    out_short a.x.now a.y a.past.now a.count.now a.method a.tolerance a.limit a.answer.now (sym c.lengths_wrong.ensures ∙ c.if-lengths_wrong.true)
+    rw c.from.ensures
+    (out_short a.x.now a.y a.past.now a.count.now a.method a.tolerance a.limit a.answer.now (sym c.lengths_wrong.ensures ∙ c.if-lengths_wrong.true))
 
 pub returns-in-Refused : goal.returns-in-Refused
 returns-in-Refused c =
     let a = c.args in
-    rw c.from.ensures
+    rw c.from-in-Refused.ensures
     (out_refused a.x.now a.y a.past.now a.count.now a.method a.tolerance a.limit a.answer.now (sym c.lengths_wrong.ensures ∙ c.if-lengths_wrong.false)
     _ c.held_step-step.ensures _ c.in-Refused.is)
 
