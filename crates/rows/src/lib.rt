@@ -1,7 +1,7 @@
 // A row of at most N items by value, in fixed memory: the items stand at its front, and every place beyond them is blank.
 #![tactic(auto)]
 
-ghost use Rattle.std.specs.Prelude.{◌≡◌, ◌≤◌, ◌<◌, ◌+◌, [], ◌∷◌, ◌++◌, length};
+ghost use Rattle.std.specs.Prelude.{◌≡◌, ◌≤◌, ◌<◌, ◌+◌, [], ◌∷◌, ◌++◌, ⊤, length};
 
 use std::alloc::AllocError;
 use std::marker::Model;
@@ -56,8 +56,12 @@ impl<T: Blank, const N: usize> Model for Row<T, N> {
     } };
 }
 
-// A derived clone would clone place by place, and a clone of a blank place need not be blank.
+// By hand: a derived clone would clone place by place, and a clone of a blank place need not be blank.
 impl<T: Blank, const N: usize> Clone for Row<T, N> {
+    ghost is_clone = { λ row copy. copy ≡ row };
+
+    ghost is_infallible = { λ row. ⊤ };
+
     fn clone(&self) -> Result<Self, AllocError> {
         Ok(*self)
     }
