@@ -1,12 +1,15 @@
 -- What planning answers, from what its parts tell: what reading gave, whether a block is over 12, whether the memory is long enough,
 -- whether the plan fits its buffer. Assumes nothing.
 use mathlib.Core.Bool.{Bool, true, false, cond}
-use mathlib.Core.List.{List, [], ◌∷◌, map}
+use mathlib.Core.List.{List, [], ◌∷◌, ◌++◌, map}
 use mathlib.Core.Path.{◌≡◌, refl, sym, ap, ◌∙◌}
 use Prim.Native.Nat.{ℕ, zero, suc, ◌≤◌, ◌<◌}
+use native.Mathlib.Omega.{arith}
 use borrow.Author.Tests.{le-leb, lt-leb, leb-false}
 use lib.Dec.{leb}
-use lib.ListN.{length}
+use lib.ListN.{length, take, drop, length-append, length-drop}
+use Rattle.std.proofs.lemmas.List.{length-take}
+use Rattle.std.proofs.lemmas.Slice.{drop-append-drop}
 use Rattle.blocks.specs.Blocks.{members_of}
 use Rattle.blocks.specs.Order.{order_of}
 use Rattle.blocks.specs.Reach.{reach_of}
@@ -95,6 +98,16 @@ spent-cleared before after s =
         → cond (leb 65536 (length before)) (cleared after 65536) after ≡ cond (leb 65536 (length before)) (cleared before 65536) before
     go true e = rw e (cleared_same after before 65536 s.beyond)
     go false e = rw e (s.short (leb-false 65536 (length before) e))
+
+-- where a memory is long enough its front is written, of any content but as long, and the rest stays
+pub spent_front : (before front : List ℕ) → 65536 ≤ length before → length front ≡ length (take 65536 before) → Spent before (front ++ drop 65536 before)
+spent_front before front h e =
+    let k : length front ≡ 65536 = e ∙ rw length-take (omega arith) in
+    record {
+      long = rw (length-append, length-drop) (omega (arith, k));
+      beyond = drop-append-drop 65536 before front 65536 (omega arith) k;
+      short = λ l. absurd (omega arith);
+    }
 
 pub work_long : (work after : List ℕ) → 65536 ≤ length work → after ≡ cleared work 65536 → after ≡ work_after work
 unfolding work_after

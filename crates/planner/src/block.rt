@@ -1,7 +1,6 @@
 // One block: its units, the weights between them, the order that tears least, and its torn streams.
-ghost use Rattle.std.specs.Prelude.{◌≡◌, ℕ, ◌+◌, ◌*◌, ◌^◌, ◌≤◌, ◌<◌, length, get_or, set, ◌++◌};
+ghost use Rattle.std.specs.Prelude.{◌≡◌, ℕ, ◌+◌, ◌^◌, ◌≤◌, ◌<◌, length, get_or, set, ◌++◌};
 ghost use Rattle.tearing.specs.Row.{total};
-ghost use Rattle.words.specs.Words.{cleared};
 ghost use Rattle.planner.specs.Plan.{units_in, charged, row_of, ordered_of, is_torn, torn_of};
 
 use crate::Numbers;
@@ -56,13 +55,12 @@ fn row_of(block: &[u16], streams: &[Stream]) -> [u32; 144]
 }
 
 // The block's units in the order that tears least and, of those, comes first.
-pub fn ordered(block: &[u16], streams: &[Stream], work: &mut [u8]) -> Units
-    requires { (length block.now ≤ 12) × (length streams.now ≤ 256) × (65536 ≤ length work.old) }
-    ensures units { result ≡ ordered_of block.now streams.now }
-    ensures work { work.new ≡ cleared work.old (4 * 2 ^ length block.now) }
+pub fn ordered(block: &[u16], streams: &[Stream], memory: &mut [u8; 65536]) -> Units
+    requires { (length block.now ≤ 12) × (length streams.now ≤ 256) }
+    ensures { result ≡ ordered_of block.now streams.now }
 {
     let row = row_of(block, streams);
-    let order = tearing::order(&row, block.len(), work);
+    let order = tearing::order(&row, block.len(), memory);
     units_in(block, order.items())
 }
 

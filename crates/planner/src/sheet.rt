@@ -1,5 +1,5 @@
 // The plan of a flowsheet: who reaches whom, the blocks in their order, and each block's own order and torn streams.
-ghost use Rattle.std.specs.Prelude.{◌≡◌, [], map, ◌+◌, ◌≤◌, ◌<◌, length, drop};
+ghost use Rattle.std.specs.Prelude.{◌≡◌, [], map, ◌+◌, ◌≤◌, ◌<◌, length};
 ghost use Rattle.blocks.specs.Blocks.{members_of};
 ghost use Rattle.blocks.specs.Order.{order_of};
 ghost use Rattle.flowsheet.specs.Good.{GoodSheet};
@@ -42,16 +42,14 @@ fn add_block(plan: &mut Plan, order: &[u16], streams: &[Stream])
 
 // The units of a place's block, in the block's order.
 #[tactic(auto, using(crate::proofs::Turns::units_in_few))]
-fn block_order(sheet: &Flowsheet, reach: &Reach, place: usize, work: &mut [u8]) -> Units
+fn block_order(sheet: &Flowsheet, reach: &Reach, place: usize, memory: &mut [u8; 65536]) -> Units
     requires places { (reach.now.places ≡ length sheet.now.units) × (place < reach.now.places) }
     requires small { length (members_of reach.now.rows reach.now.places place) ≤ 12 }
-    requires work { 65536 ≤ length work.old }
-    ensures units { result ≡ ordered_of (units_in sheet.now.units (members_of reach.now.rows reach.now.places place)) sheet.now.streams }
-    ensures work { drop 65536 work.new ≡ drop 65536 work.old }
+    ensures { result ≡ ordered_of (units_in sheet.now.units (members_of reach.now.rows reach.now.places place)) sheet.now.streams }
 {
     let members = reach.members(place);
     let block = block::units_in(sheet.units.items(), members.items());
-    block::ordered(block.items(), sheet.streams.items(), work)
+    block::ordered(block.items(), sheet.streams.items(), memory)
 }
 
 // Whether some block has more than 12 units.
@@ -71,21 +69,20 @@ fn any_large(reach: &Reach, order: &[u8]) -> bool
 
 // The plan of a flowsheet whose blocks stand in this order.
 #[tactic(auto, using(crate::proofs::Sorting::block_small, crate::proofs::Sorting::units_few, crate::proofs::Sorting::units_fit, crate::proofs::Sorting::torn_fits, crate::proofs::Sorting::plan_next))]
-fn plan_blocks(sheet: &Flowsheet, reach: &Reach, order: &[u8], work: &mut [u8]) -> Plan
-    requires { Sorted sheet.now reach.now order.now × (65536 ≤ length work.old) }
-    ensures plan { result ≡ plan_value (plan_of sheet.now.units sheet.now.streams) }
-    ensures work { drop 65536 work.new ≡ drop 65536 work.old }
+fn plan_blocks(sheet: &Flowsheet, reach: &Reach, order: &[u8], memory: &mut [u8; 65536]) -> Plan
+    requires { Sorted sheet.now reach.now order.now }
+    ensures { result ≡ plan_value (plan_of sheet.now.units sheet.now.streams) }
 {
     let mut plan = no_plan();
     for place in order {
-        let units = block_order(sheet, reach, usize::from(*place), work);
+        let units = block_order(sheet, reach, usize::from(*place), memory);
         add_block(&mut plan, units.items(), sheet.streams.items());
     }
     plan
 }
 
 // The plan of a flowsheet, or 11, or 12 where the working memory is short. It leaves the memory uncleared.
-#[tactic(auto, using(crate::proofs::Answers::sorted, crate::proofs::Answers::planned_large, crate::proofs::Answers::planned_short, crate::proofs::Answers::planned_made))]
+#[tactic(auto, using(crate::proofs::Answers::planned_large, crate::proofs::Answers::planned_short))]
 pub fn planned(sheet: &Flowsheet, work: &mut [u8]) -> Result<Plan, Refusal>
     requires { GoodSheet sheet.now }
     ensures answer { planned result ≡ planned_of sheet.now.units sheet.now.streams (length work.old) }
@@ -99,7 +96,9 @@ pub fn planned(sheet: &Flowsheet, work: &mut [u8]) -> Result<Plan, Refusal>
     if work.len() < 65536 {
         return Err(Refusal::NoRoom);
     }
-    Ok(plan_blocks(sheet, &reach, order.items(), work))
+    // The blocks are ordered in these bytes alone; what is left in them is for `clear_work`.
+    let memory = <&mut [u8; 65536]>::try_from(&mut work[..65536]).unwrap();
+    Ok(plan_blocks(sheet, &reach, order.items(), memory))
 }
 
 // Clears the first 65,536 bytes of a working memory that has as many; a shorter one stays as it was.

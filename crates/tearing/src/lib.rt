@@ -131,8 +131,8 @@ impl Flows {
 
 // The order of the places below n whose torn streams weigh least together, and of those the first. The table takes the front of the working
 // memory, four bytes for each set of the places, and leaves it zero; the rest stay.
-pub fn order(weights: &[u32; 144], n: usize, work: &mut [u8]) -> Row<u8, 12>
-    requires { (n ≤ 12) × (total weights.now < 2 ^ 32) × (65536 ≤ length work.old) }
+pub fn order(weights: &[u32; 144], n: usize, work: &mut [u8; 65536]) -> Row<u8, 12>
+    requires { (n ≤ 12) × (total weights.now < 2 ^ 32) }
     ensures { Ordered weights.now n work.old work.new result }
 {
     let flows = Flows::of(weights, n);

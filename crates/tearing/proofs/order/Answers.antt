@@ -23,7 +23,7 @@ read_off-order-requires-clause-room c =
 pub clear_front-requires : goal.clear_front-requires
 clear_front-requires c =
     let h : 2 ^ c.args.n ≤ 2 ^ 12 = pow_mono c.requires.0 in
-    omega (arith, c.one.ensures, c.requires.2, c.fill.auto.work)
+    omega (arith, c.one.ensures, c.fill.auto.work)
 
 pub returns : goal.returns
 returns c =

@@ -12,7 +12,7 @@ units_in-requires c =
     let order = c.items.ensures.items ∙ c.order-order.ensures.order in
     rw (order, best-length W n) (omega (arith, c.requires), best_at W n)
 
-pub returns-clause-units : goal.returns-clause-units
+pub returns : goal.returns
 unfolding ordered_of units_in
-returns-clause-units c =
+returns c =
     rw (c.units_in.ensures, c.items.ensures.items, c.order-order.ensures.order, c.row_of-row.ensures.row) refl
