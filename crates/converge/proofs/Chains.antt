@@ -2,7 +2,6 @@
 use mathlib.Core.Path.{◌≡◌, refl, ap}
 use mathlib.Core.Bool.{Bool, true, false, cond, ◌&&◌}
 use mathlib.Core.List.{List, [], ◌∷◌, map}
-use Prim.Native.Nat.{ℕ}
 use denote.Param.Members.{Mut}
 use lib.Ieee.{Float}
 use Rattle.std.proofs.Common.{Option, None, Some, sym, subst, ◌∙◌}
@@ -14,8 +13,8 @@ use Rattle.std.specs.List.{list_all, fold, reduce, zip, find, FoldsTo}
 use Rattle.std.specs.Option.{unwrap_or}
 use Rattle.converge.specs.Doubles.{zero64, larger, usable, beyond}
 use Rattle.converge.specs.Answer.{Answer, strayed}
-use Rattle.converge.specs.Value.{gap_of, close, next_of, usable_record}
-use Rattle.converge.specs.Row.{largest_from, largest_of, all_close, nexts_of, stray_or, usable_row, usable_records}
+use Rattle.converge.specs.Value.{gap_of, close, usable_record}
+use Rattle.converge.specs.Row.{largest_from, largest_of, all_close, stray_or, usable_row, usable_records}
 use Rattle.converge.specs.declared.History.{History}
 
 pub usable_all : (row : List Float) → list_all usable row ≡ usable_row row
@@ -73,14 +72,6 @@ module _ {S A F : Type 0} (steps : S → Option A → S → Type 0) (g : Mut F (
       ∙ ap (reduce h) (sym (map-id (ran.0 ∷ ran.1)) ∙ items_from_drains {steps = steps} {v = λ x. x} {s = s} (ran.0 ∷ ran.1) (drained s (ran.0 ∷ ran.1) ran.3) y)
 
 -- ---- the next values
-
-pub nexts_map : (x y : List Float) (past : List History) (count method : ℕ)
-    → map (λ (p : (Float × Float) × History). next_of p.0.0 p.0.1 p.1 count method) (zip (zip x y) past) ≡ nexts_of x y past count method
-unfolding nexts_of
-nexts_map [] y past count method = refl
-nexts_map (v ∷ x) [] past count method = refl
-nexts_map (v ∷ x) (w ∷ y) [] count method = refl
-nexts_map (v ∷ x) (w ∷ y) (p ∷ past) count method = ap (λ (l : List Float). next_of v w p count method ∷ l) (nexts_map x y past count method)
 
 -- the first next value beyond 1e12 is the one that Strayed carries, and without one the answer stands
 pub stray_found : (vs : List Float) (a : Answer) (v : Float) → find beyond vs ≡ Some v → stray_or vs a ≡ strayed v

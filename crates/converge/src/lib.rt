@@ -275,18 +275,32 @@ fn largest_gap(x: &[f64], y: &[f64]) -> f64
         .unwrap_or(0.0)
 }
 
-// The first next value beyond 1e12 in size.
-fn first_stray(x: &[f64], y: &[f64], history: &[History], count: u16, method: Method) -> Option<f64>
-    ensures { result ≡ find beyond (nexts_of x.now y.now history.now count (method_number method)) }
+// Works out each value's next.
+fn work_out(
+    x: &[f64],
+    y: &[f64],
+    history: &[History],
+    count: u16,
+    method: Method,
+    nexts: &mut [f64],
+)
+    requires { (length x.now ≡ length y.now) × (length x.now ≡ length history.now) × (length x.now ≡ length nexts.old) }
+    ensures { nexts.new ≡ nexts_of x.now y.now history.now count (method_number method) }
 {
-    x.iter()
-        .zip(y)
-        .zip(history)
-        .map(|((x, y), past)| next_value(*x, *y, *past, count, method))
-        .find(|next| is_beyond(*next))
+    // By index: over the rows zipped, the proof did not close, for what is written through a zip is not known after it.
+    for i in 0..nexts.len() {
+        nexts[i] = next_value(x[i], y[i], history[i], count, method);
+    }
 }
 
-// The verdict of a row that isn't refused.
+// The first next value beyond 1e12 in size.
+fn first_stray(nexts: &[f64]) -> Option<f64>
+    ensures { result ≡ find beyond nexts.now }
+{
+    nexts.iter().copied().find(|next| is_beyond(*next))
+}
+
+// The verdict of a row that isn't refused. On Moved the next values stand in `nexts`.
 #[tactic(auto, using(crate::proofs::Chains::stray_found, crate::proofs::Chains::stray_none), unfolding(crate::specs::Row::judged))]
 fn judge(
     x: &[f64],
@@ -295,8 +309,11 @@ fn judge(
     count: u16,
     method: Method,
     terms: Terms,
+    nexts: &mut [f64],
 ) -> Verdict
-    ensures { answer_of result ≡ judged x.now y.now history.now count (method_number method) terms.tolerance terms.limit }
+    requires { (length x.now ≡ length y.now) × (length x.now ≡ length history.now) × (length x.now ≡ length nexts.old) }
+    ensures verdict { answer_of result ≡ judged x.now y.now history.now count (method_number method) terms.tolerance terms.limit }
+    ensures nexts { (answer_of result).number ≡ 4 → nexts.new ≡ nexts_of x.now y.now history.now count (method_number method) }
 {
     let top = largest_gap(x, y);
     if all_close(x, y, terms.tolerance) {
@@ -305,23 +322,21 @@ fn judge(
     if u32::from(count) == terms.limit {
         return Verdict::Spent(top);
     }
-    match first_stray(x, y, history, count, method) {
+    work_out(x, y, history, count, method, nexts);
+    match first_stray(nexts) {
         Some(next) => Verdict::Strayed(next),
         None => Verdict::Moved(top),
     }
 }
 
-// Writes the next values over x, and this x and y into the records.
-fn move_row(x: &mut [f64], y: &[f64], history: &mut [History], count: u16, method: Method)
-    requires { (length x.old ≡ length y.now) × (length x.old ≡ length history.old) }
-    ensures row { x.new ≡ nexts_of x.old y.now history.old count (method_number method) }
-    ensures records { history.new ≡ records_of x.old y.now }
+// Makes the records of two rows of one length, of x and of y.
+fn make_records(x: &[f64], y: &[f64], history: &mut [History])
+    requires { (length x.now ≡ length y.now) × (length x.now ≡ length history.old) }
+    ensures { history.new ≡ records_of x.now y.now }
 {
     // By index: over the rows zipped, the proof did not close, for what is written through a zip is not known after it.
-    for i in 0..x.len() {
-        let this = History { x: x[i], y: y[i] };
-        x[i] = next_value(this.x, this.y, history[i], count, method);
-        history[i] = this;
+    for i in 0..history.len() {
+        history[i] = History { x: x[i], y: y[i] };
     }
 }
 
@@ -342,9 +357,12 @@ pub fn step_history(
         Ok(method) => method,
         Err(refusal) => return Verdict::Refused(refusal),
     };
-    match judge(x, y, history, n, method, terms) {
+    let mut row = [0.0; 16];
+    let nexts = &mut row[..x.len()];
+    match judge(x, y, history, n, method, terms, nexts) {
         Verdict::Moved(top) => {
-            move_row(x, y, history, n, method);
+            make_records(x, y, history);
+            x.copy_from_slice(nexts);
             *count = n + 1;
             Verdict::Moved(top)
         }
@@ -365,20 +383,6 @@ pub fn step_value(x: f64, y: f64, past: History, count: u16, terms: Terms) -> St
         x: row[0],
         past: records[0],
         count: moves,
-    }
-}
-
-// The records that two rows of one length make.
-fn read_records(past_x: &[f64], past_y: &[f64], history: &mut [History])
-    requires { (length past_x.now ≡ length past_y.now) × (length past_x.now ≡ length history.old) }
-    ensures { history.new ≡ records_of past_x.now past_y.now }
-{
-    // By index: over the rows zipped, the proof did not close, for what is written through a zip is not known after it.
-    for i in 0..history.len() {
-        history[i] = History {
-            x: past_x[i],
-            y: past_y[i],
-        };
     }
 }
 
@@ -412,7 +416,7 @@ pub fn step_row(
     }
     let mut records = [History { x: 0.0, y: 0.0 }; 16];
     let history = &mut records[..n];
-    read_records(past_x, past_y, history);
+    make_records(past_x, past_y, history);
     let verdict = step_history(x, y, history, count, terms);
     write_records(history, past_x, past_y);
     verdict

@@ -17,5 +17,5 @@ returns c =
     let t = a.terms in
     let s = c.step_history-verdict in
     rows_step a.x.now a.y.now a.past_x.now a.past_y.now a.count.now t.method t.tolerance t.limit
-    c.read_records.new.history s.new.history s.result s.new.x c.write_records.new.past_x c.write_records.new.past_y s.new.count
-    c.if-n-past_y.false c.read_records.ensures s.ensures c.write_records.ensures.x c.write_records.ensures.y
+    c.make_records.new.history s.new.history s.result s.new.x c.write_records.new.past_x c.write_records.new.past_y s.new.count
+    c.if-n-past_y.false c.make_records.ensures s.ensures c.write_records.ensures.x c.write_records.ensures.y
