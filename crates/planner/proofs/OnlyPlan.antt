@@ -12,7 +12,8 @@ use Rattle.planner.specs.Demand2.{Torn, BlockRules, Placed, Fed, Lower, Rules}
 use Rattle.planner.specs.Plan.{BlockPlan}
 use Rattle.planner.specs.Tables.{order_table}
 use Rattle.planner.proofs.Members.{mem_middle, once_distinct, distinct_apart, distinct_left, distinct_right, rises_rising}
-use Rattle.planner.proofs.Orders.{same_members, lex_both}
+use Rattle.tearing.proofs.Weight.{lex_both}
+use Rattle.planner.proofs.Orders.{same_members}
 use Rattle.planner.proofs.Parted.{order_append, order_has, order_only}
 
 -- the same units

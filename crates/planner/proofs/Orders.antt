@@ -103,34 +103,6 @@ module _ (f : ℕ → ℕ) where
   lex_map up (less h) = less (up _ _ (Memᴰ.head refl) (Memᴰ.head refl) h)
   lex_map up (same l) = same (lex_map (λ x y p q. up x y (Memᴰ.tail p) (Memᴰ.tail q)) l)
 
--- the two at lists of their own, said to be equal
-lex_one : {o p o' p' : List ℕ} → Lex o p → Lex p' o' → o' ≡ o → p' ≡ p → o ≡ p
-lex_one end end d e = refl
-lex_one end (less k) d e = cc
-lex_one end (same r) d e = cc
-lex_one (less h) end d e = cc
-lex_one (less {u = u} {v = v} h) (less {u = v'} {v = u'} k) d e =
-    let s : u' ≡ u = cc in
-    let t : v' ≡ v = cc in
-    absurd (omega arith)
-lex_one (less {u = u} {v = v} h) (same {u = w} q) d e =
-    let s : w ≡ u = cc in
-    let t : w ≡ v = cc in
-    absurd (omega arith)
-lex_one (same q) end d e = cc
-lex_one (same {u = u} q) (less {u = v'} {v = u'} k) d e =
-    let s : u' ≡ u = cc in
-    let t : v' ≡ u = cc in
-    absurd (omega arith)
-lex_one (same {u = u} {o = o} {p = p} q) (same {o = p'} {p = o'} r) d e =
-    let s : o' ≡ o = cc in
-    let t : p' ≡ p = cc in
-    ap (λ (l : List ℕ). u ∷ l) (lex_one q r s t)
-
--- of two orders that each come first, both are one
-pub lex_both : {o p : List ℕ} → Lex o p → Lex p o → o ≡ p
-lex_both l m = lex_one l m refl refl
-
 -- ---- a block and its places
 
 front_at : (l : List ℕ) (n : ℕ) → n ≤ length l → map (λ (i : ℕ). get_or l i 0) (upto n) ≡ take n l

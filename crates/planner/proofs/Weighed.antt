@@ -15,7 +15,7 @@ use lib.Seq.{get_or-set_same, get_or-set_other}
 use Rattle.flowsheet.specs.Sheet.{place_of}
 use Rattle.std.specs.Prelude.{Option, Some, None}
 use Rattle.flowsheet.specs.declared.Stream.{Stream}
-use Rattle.tearing.specs.Order.{Perm, upto, choose, stands_before, sum, torn, place_of as standsAt}
+use Rattle.tearing.specs.Order.{Perm, upto, choose, stands_before, sum, torn, place_of as stands_at}
 use Rattle.tearing.specs.Row.{weights}
 use Rattle.flowsheet.proofs.Places.{place_found, place_cases, place_nowhere}
 use Rattle.tearing.proofs.Lists.{each_map, Distinct, distinct_perm, rising_upto, rising_distinct, upto_below, sum-append, sum_zero, sum_agree, sum_same, sum_add}
@@ -236,12 +236,12 @@ module _ (block : List ℕ) (d : Distinct block) where
   units_perm {o} p = subst (λ (l : List ℕ). Perm l (map unit o)) (block_at_lem block) (perm_map unit p)
 
   -- a unit stands in it where its place does
-  stands_same : {o : List ℕ} → Perm (upto (length block)) o → (u a : ℕ) → place_of block u ≡ Some a → place_of (map unit o) u ≡ Some (standsAt a o)
+  stands_same : {o : List ℕ} → Perm (upto (length block)) o → (u a : ℕ) → place_of block u ≡ Some a → place_of (map unit o) u ≡ Some (stands_at a o)
   stands_same {o} p u a e =
       let f = place_found block u a e in
       let k = at_mem 0 (perm_mem p a (mem_upto (length block) a f.0)) in
-      let at : standsAt a o ≡ k.0 =
-      ap (λ (x : ℕ). standsAt x o) (sym k.2)
+      let at : stands_at a o ≡ k.0 =
+      ap (λ (x : ℕ). stands_at x o) (sym k.2)
       ∙ place_at o k.0 (distinct_perm p (rising_distinct (upto (length block)) (rising_upto (length block)))) k.1 in
       place_is (map unit o) (distinct_perm (units_perm p) d) u k.0 (omega (arith, k.1, length-map o unit))
       (at_map unit o k.0 k.1 ∙ ap unit k.2 ∙ f.1)

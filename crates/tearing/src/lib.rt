@@ -19,6 +19,7 @@ fn double(weights: &[u32; 144], place: usize, size: usize, sums: &mut [u32; 768]
     requires fits { (k : ℕ) → k < size → get_or sums.old k 0 + get_or weights.now (place * 12 + k % 12) 0 < 2 ^ 32 }
     ensures { Doubled weights.now place size size sums.old sums.new }
 {
+    // By index: of one number both where it stands and where its sum goes are named by it, which two rows zipped would hide.
     for k in 0..size {
         sums[size + k] = sums[k] + weights[place * 12 + k % 12];
     }
