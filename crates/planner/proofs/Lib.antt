@@ -16,6 +16,7 @@ pub mod Append
 pub mod Image
 pub mod ScreenParts
 pub mod SettledImage
+pub mod SettledPlan
 mod Spans
 mod Turns
 mod Ends

@@ -1,0 +1,69 @@
+-- What the functions that plan answer is settled, with the memory that they are lent: two results that a statement allows are equal, since
+-- a number is that of one refusal. Assumes nothing.
+use Rattle.std.proofs.Common.{arith, ◌≡◌, ℕ, ◌∷◌, List, [], Result, Ok, Err, get_or, length, refl, sym, ap, ◌∙◌}
+use Rattle.flowsheet.specs.declared.Flowsheet.{Flowsheet}
+use Rattle.flowsheet.specs.declared.Refusal.TheVariants.{Short, Edition, Spare, Counts, Layout, UnitNumber, StreamNumber, End, Outside, Weight}
+use Rattle.flowsheet.proofs.Tables.{number_some as image_some}
+use Rattle.planner.specs.Answer.{Planned, number_of, planned, planned_of, planned_image, code_of, buffer_from, Planning}
+use Rattle.planner.specs.declared.Plan.{Plan}
+use Rattle.planner.specs.declared.Refusal.{Refusal}
+use Rattle.planner.specs.declared.Refusal.TheVariants.{Image, LargeBlock, NoRoom}
+
+refusal_from : ℕ → Refusal
+refusal_from n =
+    get_or (NoRoom ∷ (Image Short ∷ (Image Edition ∷ (Image Spare ∷ (Image Counts ∷ (Image Layout ∷ (Image UnitNumber ∷ (Image StreamNumber ∷ (Image End ∷ (Image Outside ∷ (Image Weight ∷ (LargeBlock ∷ [])))))))))))) n NoRoom
+
+from_number : (r : Refusal) → refusal_from (number_of r) ≡ r
+unfolding refusal_from
+from_number (Image Short) = refl
+from_number (Image Edition) = refl
+from_number (Image Spare) = refl
+from_number (Image Counts) = refl
+from_number (Image Layout) = refl
+from_number (Image UnitNumber) = refl
+from_number (Image StreamNumber) = refl
+from_number (Image End) = refl
+from_number (Image Outside) = refl
+from_number (Image Weight) = refl
+from_number LargeBlock = refl
+from_number NoRoom = refl
+
+pub one_refusal : (r s : Refusal) → number_of r ≡ number_of s → r ≡ s
+one_refusal r s e = sym (from_number r) ∙ ap refusal_from e ∙ from_number s
+
+-- a refusal's number is not 0
+pub number_some : (r : Refusal) → number_of r ≡ 0 → ⊥
+number_some (Image r) e = image_some r e
+number_some LargeBlock e = omega arith
+number_some NoRoom e = omega arith
+
+-- two answers that are one plan, or one refusal's number and no plan, are equal
+pub one_plan : (r s : Result Plan Refusal) → planned r ≡ planned s → r ≡ s
+one_plan (Ok p) (Ok q) e = ap (λ (x : Planned). Ok x.plan) e
+one_plan (Ok p) (Err d) e = absurd (number_some d (sym (ap (λ (x : Planned). x.number) e)))
+one_plan (Err c) (Ok q) e = absurd (number_some c (ap (λ (x : Planned). x.number) e))
+one_plan (Err c) (Err d) e = ap Err (one_refusal c d (ap (λ (x : Planned). x.number) e))
+
+-- and so are two that carry no value and have one code
+pub one_code : (r s : Result (Unit {0}) Refusal) → code_of r ≡ code_of s → r ≡ s
+one_code (Ok f) (Ok g) e = refl
+one_code (Ok f) (Err d) e = absurd (number_some d (sym e))
+one_code (Err c) (Ok g) e = absurd (number_some c e)
+one_code (Err c) (Err d) e = ap Err (one_refusal c d e)
+
+pub plan_of_settled : (sheet : Flowsheet) (room : ℕ) (r s : Result Plan Refusal) → planned r ≡ planned_of sheet.units sheet.streams room
+    → planned s ≡ planned_of sheet.units sheet.streams room → r ≡ s
+plan_of_settled sheet room r s e f = one_plan r s (e ∙ sym f)
+
+pub plan_read_settled : (image : List ℕ) (room : ℕ) (r s : Result Plan Refusal) → planned r ≡ planned_image image room
+    → planned s ≡ planned_image image room → r ≡ s
+plan_read_settled image room r s e f = one_plan r s (e ∙ sym f)
+
+pub plan_image_settled : (image buffer work : List ℕ) (r s : Result (Unit {0}) Refusal) (b c w v : List ℕ)
+    → Planning image buffer work (code_of r) b w → Planning image buffer work (code_of s) c v → (r ≡ s) × (b ≡ c) × (w ≡ v)
+plan_image_settled image buffer work r s b c w v e f =
+    let same : code_of r ≡ code_of s = e.number ∙ sym f.number in (
+      one_code r s same,
+      e.written ∙ ap (λ (k : ℕ). buffer_from k (planned_image image (length work)) buffer) same ∙ sym f.written,
+      e.memory ∙ sym f.memory,
+    )
