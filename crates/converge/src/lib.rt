@@ -215,7 +215,7 @@ fn all_fit(row: &[f64]) -> bool
     row.iter().all(|v| fit(*v))
 }
 
-// Whether every record has both its values so, which 34 asks.
+// Whether every record has both its values so, which 34 asks. Beside `all_fit`: one line each over the library's `all`.
 fn all_fit_records(history: &[History]) -> bool
     ensures { result ≡ usable_records history.now }
 {

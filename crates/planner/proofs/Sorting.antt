@@ -166,9 +166,6 @@ module _ (sheet : Flowsheet) (reach : Reach) (order : List ℕ) (s : Sorted shee
       unfolding block_plan
       torn_are = ap (λ (o : List ℕ). torn_of o ss) units_are
 
-      pub units_few : length u ≤ 64
-      units_few = omega (arith, ap length units_are, order_room)
-
       pub units_fit : length plan.order + length u ≤ 256
       unfolding plan_value
       units_fit = rw (so_far, units_are) (omega (arith, order_room))

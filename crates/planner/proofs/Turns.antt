@@ -36,7 +36,3 @@ element_most (x ∷ w) (suc i) = omega (arith, element_most w i)
 pub units_in-length : (us places : List ℕ) → length (units_in us places) ≡ length places
 unfolding units_in
 units_in-length us places = length-map places (λ (p : ℕ). get_or us p 0)
-
--- a block of few places has few units
-pub units_in_few : (us places block : List ℕ) → block ≡ units_in us places → length places ≤ 12 → length block ≤ 12
-units_in_few us places block e h = rw (e, units_in-length us places) h

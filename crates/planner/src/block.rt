@@ -4,15 +4,19 @@ ghost use Rattle.tearing.specs.Row.{total};
 ghost use Rattle.planner.specs.Plan.{units_in, charged, row_of, ordered_of, is_torn, torn_of};
 
 use crate::Numbers;
-use flowsheet::{Stream, Units};
+use flowsheet::{Stream, Streams};
+use rows::Row;
+
+// The units of a block, of which there are at most 12.
+pub type Block = Row<u16, 12>;
 
 // The units in these places, in the places' order.
 #[tactic(auto, using(crate::proofs::Turns::map_more), unfolding(crate::specs::Plan::units_in))]
-pub fn units_in(units: &[u16], places: &[u8]) -> Units
-    requires { (length places.now ≤ 64) × ((k : ℕ) → k < length places.now → get_or places.now k 0 < length units.now) }
+pub fn units_in(units: &[u16], places: &[u8]) -> Block
+    requires { (length places.now ≤ 12) × ((k : ℕ) → k < length places.now → get_or places.now k 0 < length units.now) }
     ensures { result ≡ units_in units.now places.now }
 {
-    let mut chosen = Units::new();
+    let mut chosen = Block::new();
     for place in places {
         chosen.push(units[usize::from(*place)]);
     }
@@ -31,37 +35,36 @@ fn add_weight(row: &mut [u32; 144], at: usize, weight: u16)
 
 // Adds a stream's weight between its two ends, where both are in the block.
 #[tactic(auto, using(crate::proofs::Ends::ends_held, crate::proofs::Ends::charge_both, crate::proofs::Ends::charge_apart))]
-fn charge(row: &mut [u32; 144], block: &[u16], stream: &Stream)
-    requires { (length block.now ≤ 12) × (total row.old + 65536 ≤ 2 ^ 32) }
+fn charge(row: &mut [u32; 144], block: &Block, stream: &Stream)
+    requires { total row.old + 65536 ≤ 2 ^ 32 }
     ensures row { row.new ≡ charged block.now row.old stream.now }
     ensures total { total row.new ≤ total row.old + 65535 }
 {
-    if let Some((from, to)) = flowsheet::ends(block, stream) {
+    if let Some((from, to)) = flowsheet::ends(block.items(), stream) {
         add_weight(row, from * 12 + to, stream.weight);
     }
 }
 
 // The weights between the units of a block, twelve by twelve.
-fn row_of(block: &[u16], streams: &[Stream]) -> [u32; 144]
-    requires { (length block.now ≤ 12) × (length streams.now ≤ 256) }
+fn row_of(block: &Block, streams: &Streams) -> [u32; 144]
     ensures row { result ≡ row_of block.now streams.now }
     ensures total { total result < 2 ^ 32 }
 {
     let mut row = [0; 144];
-    for stream in streams {
+    for stream in streams.items() {
         charge(&mut row, block, stream);
     }
     row
 }
 
 // The block's units in the order that tears least and, of those, comes first.
-pub fn ordered(block: &[u16], streams: &[Stream], memory: &mut [u8; 65536]) -> Units
-    requires { (length block.now ≤ 12) × (length streams.now ≤ 256) }
+pub fn ordered(block: &Block, streams: &Streams, memory: &mut [u8; 65536]) -> Block
     ensures { result ≡ ordered_of block.now streams.now }
 {
     let row = row_of(block, streams);
-    let order = tearing::order(&row, block.len(), memory);
-    units_in(block, order.items())
+    let units = block.items();
+    let order = tearing::order(&row, units.len(), memory);
+    units_in(units, order.items())
 }
 
 // Whether a stream is torn in this order of a block's units: both its ends are in the block, and its source doesn't stand

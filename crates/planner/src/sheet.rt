@@ -7,9 +7,10 @@ ghost use Rattle.planner.specs.Plan.{units_in, ordered_of, torn_of, any_over, pl
 ghost use Rattle.planner.specs.Tables.{with_block, plan_value};
 ghost use Rattle.planner.specs.Answer.{planned, planned_of, work_after, Spent, Sorted};
 
+use crate::block::Block;
 use crate::{Numbers, Plan, Refusal, block, links};
 use blocks::Reach;
-use flowsheet::{Flowsheet, Stream, Units};
+use flowsheet::{Flowsheet, Stream};
 
 // A plan of no blocks.
 #[tactic(auto, unfolding(crate::specs::Tables::plan_value, crate::specs::Tables::block_table))]
@@ -25,12 +26,13 @@ pub fn no_plan() -> Plan
 
 // Adds a block to the plan, whose units stand in this order.
 #[tactic(auto, unfolding(crate::specs::Tables::with_block))]
-fn add_block(plan: &mut Plan, order: &[u16], streams: &[Stream])
-    requires units { (length order.now ≤ 64) × (length plan.old.order + length order.now ≤ 256) }
+fn add_block(plan: &mut Plan, block: &Block, streams: &[Stream])
+    requires units { length plan.old.order + length block.now ≤ 256 }
     requires blocks { length plan.old.blocks + 4 ≤ 256 }
-    requires torn { length plan.old.torn + length (torn_of order.now streams.now) ≤ 256 }
-    ensures { plan.new ≡ with_block plan.old (record { units = order.now; torn = torn_of order.now streams.now }) }
+    requires torn { length plan.old.torn + length (torn_of block.now streams.now) ≤ 256 }
+    ensures { plan.new ≡ with_block plan.old (record { units = block.now; torn = torn_of block.now streams.now }) }
 {
+    let order = block.items();
     let first = plan.order.items().len() as u16;
     let earlier = plan.torn.items().len() as u16;
     let units = order.len() as u16;
@@ -41,15 +43,14 @@ fn add_block(plan: &mut Plan, order: &[u16], streams: &[Stream])
 }
 
 // The units of a place's block, in the block's order.
-#[tactic(auto, using(crate::proofs::Turns::units_in_few))]
-fn block_order(sheet: &Flowsheet, reach: &Reach, place: usize, memory: &mut [u8; 65536]) -> Units
+fn block_order(sheet: &Flowsheet, reach: &Reach, place: usize, memory: &mut [u8; 65536]) -> Block
     requires places { (reach.now.places ≡ length sheet.now.units) × (place < reach.now.places) }
     requires small { length (members_of reach.now.rows reach.now.places place) ≤ 12 }
     ensures { result ≡ ordered_of (units_in sheet.now.units (members_of reach.now.rows reach.now.places place)) sheet.now.streams }
 {
     let members = reach.members(place);
     let block = block::units_in(sheet.units.items(), members.items());
-    block::ordered(block.items(), sheet.streams.items(), memory)
+    block::ordered(&block, &sheet.streams, memory)
 }
 
 // Whether some block has more than 12 units.
@@ -68,15 +69,15 @@ fn any_large(reach: &Reach, order: &[u8]) -> bool
 }
 
 // The plan of a flowsheet whose blocks stand in this order.
-#[tactic(auto, using(crate::proofs::Sorting::block_small, crate::proofs::Sorting::units_few, crate::proofs::Sorting::units_fit, crate::proofs::Sorting::torn_fits, crate::proofs::Sorting::plan_next))]
+#[tactic(auto, using(crate::proofs::Sorting::block_small, crate::proofs::Sorting::units_fit, crate::proofs::Sorting::torn_fits, crate::proofs::Sorting::plan_next))]
 fn plan_blocks(sheet: &Flowsheet, reach: &Reach, order: &[u8], memory: &mut [u8; 65536]) -> Plan
     requires { Sorted sheet.now reach.now order.now }
     ensures { result ≡ plan_value (plan_of sheet.now.units sheet.now.streams) }
 {
     let mut plan = no_plan();
     for place in order {
-        let units = block_order(sheet, reach, usize::from(*place), memory);
-        add_block(&mut plan, units.items(), sheet.streams.items());
+        let block = block_order(sheet, reach, usize::from(*place), memory);
+        add_block(&mut plan, &block, sheet.streams.items());
     }
     plan
 }

@@ -2,8 +2,8 @@
 use Rattle.planner.proofs.Sorting.{place_below, records_fit, all_done}
 use Rattle.planner.proofs.sheet.plan_blocks.Goals as goal
 
-pub block_order-units-requires-clause-places : goal.block_order-units-requires-clause-places
-block_order-units-requires-clause-places c =
+pub block_order-block-requires-clause-places : goal.block_order-block-requires-clause-places
+block_order-block-requires-clause-places c =
     let a = c.args in
     let s = c.requires in
     (s.places, place_below a.sheet.now a.reach.now a.order.now s c.loop-place.place-index c.loop-place-test.true c.from.result c.from.ensures)
