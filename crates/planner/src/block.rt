@@ -6,6 +6,7 @@ ghost use Rattle.planner.specs.Plan.{units_in, charged, row_of, ordered_of, is_t
 use crate::Numbers;
 use flowsheet::{Stream, Streams};
 use rows::Row;
+use tearing::Weights;
 
 // The units of a block, of which there are at most 12.
 pub type Block = Row<u16, 12>;
@@ -46,24 +47,23 @@ fn charge(row: &mut [u32; 144], block: &Block, stream: &Stream)
 }
 
 // The weights between the units of a block, twelve by twelve.
-fn row_of(block: &Block, streams: &Streams) -> [u32; 144]
-    ensures row { result ≡ row_of block.now streams.now }
-    ensures total { total result < 2 ^ 32 }
+fn weights_of(block: &Block, streams: &Streams) -> Weights
+    ensures { result.row ≡ row_of block.now streams.now }
 {
     let mut row = [0; 144];
     for stream in streams.items() {
         charge(&mut row, block, stream);
     }
-    row
+    Weights { row }
 }
 
 // The block's units in the order that tears least and, of those, comes first.
 pub fn ordered(block: &Block, streams: &Streams, memory: &mut [u8; 65536]) -> Block
     ensures { result ≡ ordered_of block.now streams.now }
 {
-    let row = row_of(block, streams);
+    let weights = weights_of(block, streams);
     let units = block.items();
-    let order = tearing::order(&row, units.len(), memory);
+    let order = tearing::order(&weights, units.len(), memory);
     units_in(units, order.items())
 }
 

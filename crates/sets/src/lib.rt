@@ -1,4 +1,5 @@
 // Sets of at most 64 places, each a number of 64 bits: bit j says whether place j is in the set. Nothing here knows what a place stands for.
+// A place is a plain `usize`, since it also counts loops and indexes rows: a type of its own would be opened and made again at each.
 #![tactic(auto)]
 
 ghost use Rattle.std.specs.Prelude.{◌≡◌, ◌==◌, ◌<◌, ◌^◌};

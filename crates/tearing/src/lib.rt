@@ -13,6 +13,13 @@ ghost use Rattle.tearing.specs.Answer.{Ordered};
 use rows::Row;
 use words::Word;
 
+// What the streams between the places of a block weigh: at 12 * i + j those from place i to place j. Together they fit 32 bits.
+#[derive(Clone, Copy)]
+pub struct Weights {
+    pub row: [u32; 144],
+    ghost small: { total row < 2 ^ 32 },
+}
+
 // Adds to the first numbers of a table of sums as many again: those of the same sets with one place more.
 fn double(weights: &[u32; 144], place: usize, size: usize, sums: &mut [u32; 768])
     requires room { (place < 12) × (size ≤ 384) × (length sums.old ≡ 768) }
@@ -27,14 +34,14 @@ fn double(weights: &[u32; 144], place: usize, size: usize, sums: &mut [u32; 768]
 
 // What the streams into each place weigh together from each set of the places from `from` up to `to`. The table has the empty set's, which
 // are zero, already. It is written in place: handed back by value it is copied three times, which was tried and is slower.
-fn half(weights: &[u32; 144], from: usize, to: usize, sums: &mut [u32; 768])
-    requires places { (from ≤ 6) × (to ≤ from + 6) × (total weights.now < 2 ^ 32) }
-    requires empty_set { (length sums.old ≡ 768) × Summed (weights_of weights.now) from sums.old 12 }
-    ensures { Summed (weights_of weights.now) from sums.new (12 * 2 ^ (to - from)) }
+fn half(weights: &Weights, from: usize, to: usize, sums: &mut [u32; 768])
+    requires places { (from ≤ 6) × (to ≤ from + 6) }
+    requires empty_set { (length sums.old ≡ 768) × Summed (weights_of weights.now.row) from sums.old 12 }
+    ensures { Summed (weights_of weights.now.row) from sums.new (12 * 2 ^ (to - from)) }
 {
     let mut size: usize = 12;
     for place in from..to {
-        double(weights, place, size, sums);
+        double(&weights.row, place, size, sums);
         size *= 2;
     }
 }
@@ -52,10 +59,10 @@ struct Flows {
 
 impl Flows {
     // What the streams between the places below n weigh.
-    fn of(weights: &[u32; 144], n: usize) -> Flows
-        requires { (n ≤ 12) × (total weights.now < 2 ^ 32) }
+    fn of(weights: &Weights, n: usize) -> Flows
+        requires { n ≤ 12 }
         ensures places { result.places ≡ n }
-        ensures sums { Sums (weights_of weights.now) n result.low result.high }
+        ensures sums { Sums (weights_of weights.now.row) n result.low result.high }
     {
         let mut flows = Flows {
             low: [0; 768],
@@ -132,9 +139,9 @@ impl Flows {
 
 // The order of the places below n whose torn streams weigh least together, and of those the first. The table takes the front of the working
 // memory, four bytes for each set of the places, and leaves it zero; the rest stay.
-pub fn order(weights: &[u32; 144], n: usize, work: &mut [u8; 65536]) -> Row<u8, 12>
-    requires { (n ≤ 12) × (total weights.now < 2 ^ 32) }
-    ensures { Ordered weights.now n work.old work.new result }
+pub fn order(weights: &Weights, n: usize, work: &mut [u8; 65536]) -> Row<u8, 12>
+    requires { n ≤ 12 }
+    ensures { Ordered weights.now.row n work.old work.new result }
 {
     let flows = Flows::of(weights, n);
     flows.fill(work);

@@ -21,8 +21,8 @@ pub double-requires-clause-fits : goal.double-requires-clause-fits
 double-requires-clause-fits c =
     let l = c.loop-place in
     let a = c.args in
-    doubled_fits a.weights.now a.from (l.place - a.from) l.place l.size (omega arith) (omega arith) l.invariant.2 l.sums
-    l.invariant.3 c.requires.places.2
+    doubled_fits a.weights.now.row a.from (l.place - a.from) l.place l.size (omega arith) (omega arith) l.invariant.2 l.sums
+    l.invariant.3 a.weights.now.small
 
 pub loop-place-preserved : goal.loop-place-preserved
 loop-place-preserved c =
@@ -33,6 +33,6 @@ loop-place-preserved c =
       omega arith,
       d.long ∙ l.invariant.1,
       rw (e, pow-succ' 2 (l.place - a.from)) (omega (arith, l.invariant.2)),
-      summed_more a.weights.now a.from (l.place - a.from) l.place l.size (omega arith) (omega arith) l.invariant.2
+      summed_more a.weights.now.row a.from (l.place - a.from) l.place l.size (omega arith) (omega arith) l.invariant.2
           l.sums l.invariant.3 _ d,
     )

@@ -9,4 +9,4 @@ invariant-loop-place l =
     (l.place - l.from ≤ l.to - l.from)
     × (length l.sums ≡ 768)
     × (l.size ≡ 12 * 2 ^ (l.place - l.from))
-    × Summed (weights_of l.weights) l.from l.sums l.size
+    × Summed (weights_of l.weights.row) l.from l.sums l.size

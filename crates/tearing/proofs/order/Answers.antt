@@ -22,7 +22,7 @@ read_off-order-requires-clause-room c =
 
 pub clear_front-requires : goal.clear_front-requires
 clear_front-requires c =
-    let h : 2 ^ c.args.n ≤ 2 ^ 12 = pow_mono c.requires.0 in
+    let h : 2 ^ c.args.n ≤ 2 ^ 12 = pow_mono c.requires in
     omega (arith, c.one.ensures, c.fill.auto.work)
 
 pub returns : goal.returns
@@ -35,6 +35,6 @@ returns c =
     record {
       order = c.read_off-order.ensures
           ∙ ap (best (between f.low f.high)) p
-          ∙ best_between (weights a.weights.now) a.n f.low f.high c.of-flows.ensures.sums;
+          ∙ best_between (weights a.weights.now.row) a.n f.low f.high c.of-flows.ensures.sums;
       work = c.clear_front.ensures ∙ ap (λ (k : ℕ). cleared table (4 * k)) c.one.ensures ∙ cleared_same table a.work.now (4 * 2 ^ a.n) kept;
     }

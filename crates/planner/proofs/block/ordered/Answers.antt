@@ -7,7 +7,7 @@ use Rattle.planner.proofs.block.ordered.Goals as goal
 
 pub units_in-requires : goal.units_in-requires
 units_in-requires c =
-    let W : ℕ → ℕ → ℕ = weights c.row_of-row.result in
+    let W : ℕ → ℕ → ℕ = weights c.weights_of-weights.result.row in
     let units = c.items-units in
     let n : ℕ = length units.result.now in
     let order = c.items.ensures.items ∙ c.order-order.ensures.order in
@@ -16,4 +16,4 @@ units_in-requires c =
 pub returns : goal.returns
 unfolding ordered_of units_in
 returns c =
-    rw (c.units_in.ensures, c.items.ensures.items, c.order-order.ensures.order, c.row_of-row.ensures.row, c.items-units.ensures.items) refl
+    rw (c.units_in.ensures, c.items.ensures.items, c.order-order.ensures.order, c.weights_of-weights.ensures, c.items-units.ensures.items) refl

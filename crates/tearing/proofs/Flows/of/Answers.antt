@@ -15,17 +15,17 @@ tables w n x low high few small is a b =
     sums w n few low high (rw e at a) b small
 
 pub half-requires-clause-empty_set : goal.half-requires-clause-empty_set
-half-requires-clause-empty_set c = (refl, summed_none (weights c.args.weights.now) 0 768 (omega arith))
+half-requires-clause-empty_set c = (refl, summed_none (weights c.args.weights.now.row) 0 768 (omega arith))
 
 pub half-requires-2-clause-empty_set : goal.half-requires-2-clause-empty_set
-half-requires-2-clause-empty_set c = (refl, summed_none (weights c.args.weights.now) 6 768 (omega arith))
+half-requires-2-clause-empty_set c = (refl, summed_none (weights c.args.weights.now.row) 6 768 (omega arith))
 
 pub returns-clause-sums : goal.returns-clause-sums
-returns-clause-sums c = tables _ _ _ _ _ c.requires.0 c.requires.1 c.min.ensures c.half.ensures c.half-2.ensures
+returns-clause-sums c = tables _ _ _ _ _ c.requires c.args.weights.now.small c.min.ensures c.half.ensures c.half-2.ensures
 
 pub invariant_of-flows : goal.invariant_of-flows
 invariant_of-flows c =
     record {
-      few = c.requires.0;
-      sums = sums_between _ _ _ _ (tables c.args.weights.now _ _ _ _ c.requires.0 c.requires.1 c.min.ensures c.half.ensures c.half-2.ensures);
+      few = c.requires;
+      sums = sums_between _ _ _ _ (tables c.args.weights.now.row _ _ _ _ c.requires c.args.weights.now.small c.min.ensures c.half.ensures c.half-2.ensures);
     }

@@ -2,7 +2,7 @@
 use Rattle.std.proofs.Common.{refl, arith}
 use Rattle.tearing.proofs.Total.{total_none}
 use Rattle.planner.specs.Plan.{row_of}
-use Rattle.planner.proofs.block.row_of.Goals as goal
+use Rattle.planner.proofs.block.weights_of.Goals as goal
 
 pub loop-stream-init : goal.loop-stream-init
 unfolding row_of

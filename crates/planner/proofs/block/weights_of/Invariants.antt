@@ -2,7 +2,7 @@
 use Rattle.std.proofs.Common.{◌≡◌, ◌*◌, ◌≤◌, drop}
 use Rattle.tearing.specs.Row.{total}
 use Rattle.planner.specs.Plan.{charged_all, row_of}
-use Rattle.planner.proofs.block.row_of.Given as goal
+use Rattle.planner.proofs.block.weights_of.Given as goal
 
 abbrev pub invariant-loop-stream : goal.invariant-loop-stream
 invariant-loop-stream l =
