@@ -230,6 +230,9 @@ fn records_wrong(history: &[History], count: u16, limit: u32) -> bool
     limit < u32::from(count) || (0 < count && !all_fit_records(history))
 }
 
+// Here and below the rows go apart, as they are lent: a struct of the three would be taken apart again by each function, which reads some
+// of them and changes another.
+
 // The method of a step that isn't refused. The refusals are tried in the order of their numbers.
 #[tactic(auto, unfolding(crate::specs::Row::refusal_of, crate::specs::Row::values_wrong))]
 fn accept(
