@@ -1,5 +1,5 @@
 -- Rows of a fixed length that are filled from the front, and tables of a function. Assumes nothing.
-use mathlib.Core.List.{List, [], ◌∷◌, ◌++◌, append_assoc, append-nil}
+use mathlib.Core.List.{List, [], ◌∷◌, ◌++◌}
 use mathlib.Core.Logic.{⊎_elim}
 use mathlib.Core.Path.{◌≡◌, refl, sym, ap, ◌∙◌}
 use Prim.Native.Nat.{ℕ, zero, suc, ◌+◌, ◌-◌, ◌≤◌, ◌<◌}
@@ -8,7 +8,7 @@ use native.Mathlib.Numerals.{add-one}
 use native.Mathlib.Omega.{arith}
 use lib.ListN.{length, get_or, set, take, replicate, length-append, length-replicate, get_or-append}
 use Rattle.std.proofs.lemmas.List.{length-take-le, take_more_set}
-use lib.Seq.{sets, take_at, set-append_seam, append_snoc, get_or-append_seam}
+use lib.Seq.{take_at, set-append_seam, append_snoc, get_or-append_seam}
 use Rattle.rows.specs.Rows.{padded, table}
 
 module _ {A : Type 0} where
@@ -39,13 +39,6 @@ module _ {A : Type 0} where
       ∙ padded_more n d (take count places) v (rw l h)
       ∙ ap (padded n d) (sym (take_more_set places count v (rw e h)))
 
-  -- so do stores one after the other
-  pub padded-sets : (n : ℕ) (d : A) (xs ys : List A) → length xs + length ys ≤ n → sets (padded n d xs) (length xs) ys ≡ padded n d (xs ++ ys)
-  padded-sets n d xs [] h = rw append-nil
-  padded-sets n d xs (y ∷ ys) h =
-      let e : suc (length xs) ≡ length (xs ++ (y ∷ [])) = rw length-append (omega arith) in
-      rw (padded_more n d xs y (omega arith), e, padded-sets n d (xs ++ (y ∷ [])) ys (rw length-append (omega arith)), append_assoc)
-
   -- what is held is what was put in
   pub take-padded : (n : ℕ) (d : A) (xs : List A) → take (length xs) (padded n d xs) ≡ xs
   unfolding padded
@@ -71,13 +64,6 @@ module _ {A : Type 0} where
         (ap (λ (k : ℕ). get_or (table f n ++ (f n ∷ [])) k d) (sym (length-table n)) ∙ get_or-append_seam (table f n) (f n) [] d))
         (λ (l : i < n). get_or-append (table f n) (f n ∷ []) d i (rw length-table l) ∙ get_or-table n d i l)
         (eq-or-lt_of_le (le_of_suc-le-suc h))
-
-    -- a store of what f gives at the first free place makes the table one longer
-    pub padded-table : (n : ℕ) (d : A) (i : ℕ) → i < n → set (padded n d (table f i)) i (f i) ≡ padded n d (table f (i + 1))
-    padded-table n d i h =
-        ap (λ (k : ℕ). set (padded n d (table f i)) k (f i)) (sym (length-table i))
-        ∙ padded_more n d (table f i) (f i) (rw length-table h)
-        ∙ ap (padded n d) (sym (table_more i))
 
   -- tables of functions that agree
   pub table_same : (f g : ℕ → A) (n : ℕ) → ((i : ℕ) → i < n → f i ≡ g i) → table f n ≡ table g n

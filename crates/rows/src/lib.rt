@@ -1,7 +1,10 @@
-// A row of at most N items by value, in fixed memory: the items stand at its front, and every place beyond them is blank.
+// A row of at most N items by value, in fixed memory: the items stand at its front, and every place beyond them is blank. It is no
+// `ArrayVec`, since flowsheets and plans are copied by value, and what lies beyond their items is zero and not left open.
 #![tactic(auto)]
 
 ghost use Rattle.std.specs.Prelude.{◌≡◌, ◌≤◌, ◌<◌, ◌+◌, [], ◌∷◌, ◌++◌, ⊤, length};
+ghost use Rattle.std.specs.Float.{binary64};
+ghost use Rattle.std.specs.Float.Ieee.{of_bits};
 
 use std::alloc::AllocError;
 use std::marker::Model;
@@ -27,6 +30,14 @@ impl Blank for u16 {
 
     fn blank() -> u16 {
         0
+    }
+}
+
+impl Blank for f64 {
+    ghost blank = { of_bits binary64 0 };
+
+    fn blank() -> f64 {
+        0.0
     }
 }
 
