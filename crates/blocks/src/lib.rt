@@ -1,5 +1,6 @@
 // Who reaches whom among at most 64 places, which of them share a block, and the order of the blocks. A table has a row of 64 bits
-// for each place: bit j of row i says that a link, or a path, leads from place i to place j. A set of places is such a row too.
+// for each place: bit j of row i says that a link, or a path, leads from place i to place j. A set of places is such a row too. A place is a
+// plain `usize` below 64, since it also counts loops and indexes rows: a type of its own would be opened and made again at each.
 
 #![tactic(auto)]
 
@@ -20,7 +21,8 @@ pub fn link(table: &mut [u64; 64], from: usize, to: usize)
     table[from] |= one(to);
 }
 
-// Who reaches whom among so many places: bit j of row i says that a path leads from place i to place j.
+// Who reaches whom among so many places: bit j of row i says that a path leads from place i to place j. All 64 rows are here and none is blank,
+// since `reach_of` speaks of all of them; the number says how many places there are.
 #[derive(Clone, Copy)]
 pub struct Reach {
     pub rows: [u64; 64],

@@ -45,7 +45,7 @@ fn image_of(units: u16, streams: u16) -> [u8; 4096]
 }
 
 // The number that reading answers for the image of so many units and streams, with a number written over it at some byte
-// where there is a change, lent with `length` bytes. Numbers, as the cases are written down in them.
+// where there is a change, lent with `length` bytes. What is wanted stays a number, since the cases keep the values that they had.
 fn changed(
     rt: &impl Print,
     name: &str,

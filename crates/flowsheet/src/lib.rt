@@ -10,7 +10,8 @@ ghost use Rattle.flowsheet.specs.Image.{header_of, laid_out, stream_held, fault_
 use rows::{Blank, Row};
 use words::Word;
 
-// A stream: its number, the unit that it leaves and the unit that it enters (0 for outside), and its weight.
+// A stream: its number, the unit that it leaves and the unit that it enters, and its weight. An end is 0 for outside, as in the image and in
+// `stream_fault`.
 #[derive(Clone, Copy, Debug, PartialEq, Eq)]
 pub struct Stream {
     pub number: u16,
@@ -33,10 +34,10 @@ impl Blank for Stream {
     }
 }
 
-// Units by number, rising.
+// Units, by number.
 pub type Units = Row<u16, 64>;
 
-// Streams, rising by number.
+// Streams, in the order of their numbers.
 pub type Streams = Row<Stream, 256>;
 
 #[derive(Clone, Copy)]
@@ -122,7 +123,7 @@ fn in_turn(number: u16, last: u16) -> bool
     1 <= number && number <= 9999 && last < number
 }
 
-// Whether a weight is in range: 10 where it is not.
+// Nothing where a weight is in range, else `Refusal::Weight`.
 #[tactic(auto, unfolding(crate::specs::Sheet::weight_fault))]
 pub fn check_weight(weight: u16) -> Result<(), Refusal>
     ensures { fault_of result ≡ weight_fault weight }
@@ -133,7 +134,7 @@ pub fn check_weight(weight: u16) -> Result<(), Refusal>
     Ok(())
 }
 
-// Whether a stream's ends and weight are good: 8, 9 or 10 where one is not.
+// Nothing where a stream's ends and weight are good, else `Refusal::End`, `Outside` or `Weight`, the first that holds.
 #[tactic(auto, unfolding(crate::specs::Sheet::stream_fault))]
 pub fn check_stream(units: &[u16], stream: &Stream) -> Result<(), Refusal>
     ensures { fault_of result ≡ stream_fault units.now stream.now }
@@ -320,6 +321,7 @@ fn read_table<R: Record, const N: usize>(
         numbered result ≡ table_read (fault_at R.number R.OUT_OF_TURN (R.fault units.now) at) at count }
 {
     let mut records = Row::new();
+    // below every number that is in turn, as `before` of the definitions has it
     let mut last = 0;
     for i in 0..count {
         let Some(record) = read_record::<R>(image, start + R::WIDTH * i, last) else {

@@ -5,8 +5,8 @@
 ghost use Rattle.std.specs.Prelude.{◌≤◌, IfOk, length};
 
 use planner::{Asked, Plan};
-use std::io;
 use std::io::Read;
+use std::{fmt, io};
 
 // Reads until the row is full or the input ends: how many bytes at its front were read. A `while`, since how often the
 // input has to be asked isn't known before.
@@ -25,11 +25,16 @@ fn read_full(input: &mut impl Read, row: &mut [u8]) -> io::Result<usize>
 }
 
 // The numbers of a row with a space before each.
-fn write_row(rt: &impl Print, row: &[u16]) -> io::Result<()> {
-    for number in row {
-        print!(rt; " {number}")?;
+#[derive(Clone, Copy)]
+struct Spaced<'a>(&'a [u16]);
+
+impl fmt::Display for Spaced<'_> {
+    fn fmt<W: fmt::Write>(&self, f: &mut fmt::Formatter<W>) -> fmt::Result {
+        for number in self.0 {
+            write!(f, " {number}")?;
+        }
+        Ok(())
     }
-    Ok(())
 }
 
 // The line of the block in that place.
@@ -37,15 +42,14 @@ fn write_block(rt: &impl Print, plan: &Plan, place: u16) -> io::Result<()> {
     let blocks = plan.blocks.items();
     let order = plan.order.items();
     let torn = plan.torn.items();
-    print!(rt; "{}:", u32::from(place) + 1)?;
-    write_row(rt, planner::part(blocks, order, torn, place, Asked::Units))?;
-    print!(rt; " |")?;
-    let tears = planner::part(blocks, order, torn, place, Asked::Tears);
-    if tears.is_empty() {
-        print!(rt; " -")?;
+    let number = u32::from(place) + 1;
+    let units = Spaced(planner::part(blocks, order, torn, place, Asked::Units));
+    let tears = Spaced(planner::part(blocks, order, torn, place, Asked::Tears));
+    if tears.0.is_empty() {
+        println!(rt; "{number}:{units} | -")
+    } else {
+        println!(rt; "{number}:{units} |{tears}")
     }
-    write_row(rt, tears)?;
-    println!(rt;)
 }
 
 // How many units, blocks and torn streams there are, then the lines of the blocks. Four numbers of the block table are one block.

@@ -33,7 +33,7 @@ plan_number us ss room = cond (too_large us ss) 11 (cond (leb 65536 room) 0 12)
 abbrev pub refused_plan : ℕ → Planned
 refused_plan k = record { number = k; plan = plan_value [] }
 
--- an answer in these terms
+-- what a function that plans returns, as such an answer
 abbrev pub planned : Result Plan Refusal → Planned
 planned (Ok p) = record { number = 0; plan = p }
 planned (Err r) = refused_plan (number_of r)

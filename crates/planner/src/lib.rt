@@ -50,7 +50,7 @@ impl From<flowsheet::Refusal> for Refusal {
     ghost from_gives = { λ refusal r. r ≡ Image refusal };
 
     fn from(refusal: flowsheet::Refusal) -> Refusal {
-        Refusal::Image(refusal)
+        Self::Image(refusal)
     }
 }
 

@@ -22,7 +22,7 @@ pub struct Weights {
 
 // Adds to the first numbers of a table of sums as many again: those of the same sets with one place more.
 fn double(weights: &[u32; 144], place: usize, size: usize, sums: &mut [u32; 768])
-    requires room { (place < 12) × (size ≤ 384) × (length sums.old ≡ 768) }
+    requires room { (place < 12) × (size ≤ 384) }
     requires fits { (k : ℕ) → k < size → get_or sums.old k 0 + get_or weights.now (place * 12 + k % 12) 0 < 2 ^ 32 }
     ensures { Doubled weights.now place size size sums.old sums.new }
 {
@@ -36,7 +36,7 @@ fn double(weights: &[u32; 144], place: usize, size: usize, sums: &mut [u32; 768]
 // are zero, already. It is written in place: handed back by value it is copied three times, which was tried and is slower.
 fn half(weights: &Weights, from: usize, to: usize, sums: &mut [u32; 768])
     requires places { (from ≤ 6) × (to ≤ from + 6) }
-    requires empty_set { (length sums.old ≡ 768) × Summed (weights_of weights.now.row) from sums.old 12 }
+    requires empty_set { Summed (weights_of weights.now.row) from sums.old 12 }
     ensures { Summed (weights_of weights.now.row) from sums.new (12 * 2 ^ (to - from)) }
 {
     let mut size: usize = 12;
@@ -91,7 +91,7 @@ impl Flows {
         ensures first { First (via self.now.low self.now.high work.now set) self.now.places set result.0 }
         ensures torn { result.1 ≡ via self.now.low self.now.high work.now set result.0 }
     {
-        // more than any order tears
+        // more than any order tears: a set has a member, so it never stays
         let mut lightest: u64 = 4294967296;
         let mut begin: usize = 0;
         for u in 0..self.places {

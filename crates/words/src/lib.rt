@@ -5,7 +5,8 @@
 ghost use Rattle.std.specs.Prelude.{◌≡◌, ℕ, ◌+◌, ◌≤◌, length};
 ghost use Rattle.words.specs.Words.{number_at, with_number, cleared};
 
-// A type of number that stands in a row as so many bytes, the low one first.
+// A type of number that stands in a row as so many bytes, the low one first. Each wider one is two of half its width, so that one law over
+// the width serves all three; std's `from_le_bytes` would want a law for each.
 pub trait Word: Copy {
     ghost width: { ℕ };
 

@@ -1,5 +1,5 @@
 -- The two tables of sums are those of the weights, by `sums`, and so of what they say themselves of the weights, by `sums_between`.
-use Rattle.std.proofs.Common.{List, ◌≡◌, ℕ, ◌<◌, ◌*◌, ◌-◌, ◌^◌, ◌≤◌, min, refl, arith}
+use Rattle.std.proofs.Common.{List, ◌≡◌, ℕ, ◌<◌, ◌*◌, ◌-◌, ◌^◌, ◌≤◌, min, arith}
 use Rattle.tearing.specs.Row.{weights, total}
 use Rattle.tearing.specs.Table.{Summed, Sums}
 use Rattle.tearing.proofs.Halves.{summed_none, sums}
@@ -15,10 +15,10 @@ tables w n x low high few small is a b =
     sums w n few low high (rw e at a) b small
 
 pub half-requires-clause-empty_set : goal.half-requires-clause-empty_set
-half-requires-clause-empty_set c = (refl, summed_none (weights c.args.weights.now.row) 0 768 (omega arith))
+half-requires-clause-empty_set c = summed_none (weights c.args.weights.now.row) 0 768 (omega arith)
 
 pub half-requires-2-clause-empty_set : goal.half-requires-2-clause-empty_set
-half-requires-2-clause-empty_set c = (refl, summed_none (weights c.args.weights.now.row) 6 768 (omega arith))
+half-requires-2-clause-empty_set c = summed_none (weights c.args.weights.now.row) 6 768 (omega arith)
 
 pub returns-clause-sums : goal.returns-clause-sums
 returns-clause-sums c = tables _ _ _ _ _ c.requires c.args.weights.now.small c.min.ensures c.half.ensures c.half-2.ensures
