@@ -79,6 +79,9 @@ fn put_answer(answer: &mut [u8], number: u8, carried: f64)
     put_double(answer, 1, carried);
 }
 
+// x, past and count stay rows with a clause on their lengths, here and above: of what is written through an array made of a lent row, std says
+// nothing afterwards (tried).
+//
 // Writes what Moved changes: x takes the next value, the record its x and then its y, and the count the new one. The record's x is
 // written from the double: an accepted x is a number, whose pattern is the 8 bytes that it was read from.
 fn put_moved(x: &mut [u8], past: &mut [u8], count: &mut [u8], step: Step)
