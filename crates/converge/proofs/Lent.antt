@@ -8,14 +8,19 @@ use lib.Dec.{eqb}
 use lib.ListN.{length}
 use lib.Ieee.{Float}
 use borrow.Author.Tests.{eqb-false, eq-eqb, ne_eqb}
-use Rattle.converge.specs.Answer.{Answer, number_of, refused, answer_of}
-use Rattle.converge.specs.Row.{Stepped, kept, after, stepped, nexts_of, records_of, refusal_of, judged, verdict_of}
+use Rattle.std.proofs.Common.{Option, None, Some}
+use Rattle.std.specs.List.{find}
+use Rattle.std.specs.Option.{option_map_or}
+use Rattle.converge.specs.Answer.{Answer, number_of, settled, spent, moved, refused, answer_of}
+use Rattle.converge.specs.Doubles.{beyond}
+use Rattle.converge.specs.Row.{Stepped, kept, after, stepped, all_close, largest_of, stray_or, Settles, nexts_of, records_of, refusal_of, judged, verdict_of}
 use Rattle.converge.specs.Promise.{HistoryStep, rows_of, rows_stepped}
 use Rattle.converge.specs.declared.History.{History}
 use Rattle.converge.specs.declared.Refusal.{Refusal}
 use Rattle.converge.specs.declared.Refusal.TheVariants.{Rows, Tolerance, Limit, Values, Records}
 use Rattle.converge.specs.declared.Verdict.{Verdict}
-use Rattle.converge.specs.declared.Verdict.TheVariants.{Settled, Spent, Strayed, Moved, Refused}
+use Rattle.converge.specs.declared.Verdict.TheVariants.{Strayed, Moved, Refused}
+use Rattle.converge.proofs.Chains.{stray_found, stray_none}
 use Rattle.converge.proofs.Verdicts.{moved_accepted}
 
 module _ (x y : List Float) (past : List History) (count method : ℕ) (a : Answer) where
@@ -62,13 +67,6 @@ module _ (x y px py : List Float) (count method : ℕ) (tolerance : Float) (limi
   rows_unlevel n = rw (ne_eqb (length px) (length py) n)
 
 -- ---- what the step of a row leaves
-
-pub not_moved : (r : Verdict) → ((d : Float) → r ≡ Moved d → ⊥) → eqb (answer_of r).number 4 ≡ false
-not_moved (Settled d) h = refl
-not_moved (Spent d) h = refl
-not_moved (Strayed d) h = refl
-not_moved (Moved d) h = absurd (h d refl)
-not_moved (Refused r) h = refl
 
 module _ (x y : List Float) (past : List History) (count method : ℕ) (tolerance : Float) (limit : ℕ) where
   verdict_refused : (r : Refusal) → refusal_of x y past count method tolerance limit ≡ number_of r
@@ -121,3 +119,34 @@ module _ (x y : List Float) (past : List History) (count method : ℕ) (toleranc
               (sym (stepped-moved x y past count method tolerance limit n))
               (record { verdict = f; x = ap (λ (n : ℕ). nexts_of x y past count n) known; past = refl; count = refl }),
         )
+
+-- ---- what is judged before the next values, and by them
+
+-- a verdict that needs no next value is not Moved
+pub early_stays : (x y : List Float) (count : ℕ) (tolerance : Float) (limit : ℕ) (top : Float) (v : Verdict) → Settles x y count tolerance limit top (Some v) → eqb (answer_of v).number 4 ≡ false
+early_stays x y count tolerance limit top v h = ap (λ (a : Answer). eqb a.number 4) (sym (h (spent top))) ∙ go (all_close x y tolerance) (eqb count limit)
+  where
+    go : (p q : Bool) → eqb (cond p (settled top) (cond q (spent top) (spent top))).number 4 ≡ false
+    go true q = refl
+    go false true = refl
+    go false false = refl
+
+module _ (x y : List Float) (past : List History) (count method : ℕ) (tolerance : Float) (limit : ℕ) (top : Float) (largest : top ≡ largest_of x y) where
+  judged_settles : (o : Option Verdict) → Settles x y count tolerance limit top o
+      → judged x y past count method tolerance limit ≡ option_map_or answer_of o (stray_or (nexts_of x y past count method) (moved top))
+  unfolding judged
+  judged_settles o h =
+      ap (λ (t : Float). cond (all_close x y tolerance) (settled t) (cond (eqb count limit) (spent t) (stray_or (nexts_of x y past count method) (moved t))))
+      (sym largest)
+      ∙ h (stray_or (nexts_of x y past count method) (moved top))
+
+  pub judged_early : (v : Verdict) → Settles x y count tolerance limit top (Some v) → answer_of v ≡ judged x y past count method tolerance limit
+  judged_early v h = sym (judged_settles (Some v) h)
+
+  pub judged_strayed : (v : Float) → Settles x y count tolerance limit top None → Some v ≡ find beyond (nexts_of x y past count method)
+      → answer_of (Strayed v) ≡ judged x y past count method tolerance limit
+  judged_strayed v h e = sym (judged_settles None h ∙ stray_found _ _ v (sym e))
+
+  pub judged-moved : Settles x y count tolerance limit top None → None ≡ find beyond (nexts_of x y past count method)
+      → answer_of (Moved top) ≡ judged x y past count method tolerance limit
+  judged-moved h e = sym (judged_settles None h ∙ stray_none _ _ (sym e))

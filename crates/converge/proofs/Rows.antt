@@ -1,17 +1,14 @@
--- Records and next values of rows, by place and by length. Assumes nothing.
+-- Records and next values of rows: their lengths, and each as a map over a zip. Assumes nothing.
 use mathlib.Core.Path.{◌≡◌, refl, ap}
 use mathlib.Core.List.{List, [], ◌∷◌, map}
-use Prim.Native.Nat.{ℕ, zero, suc, ◌<◌}
+use Prim.Native.Nat.{ℕ, suc}
 use native.Mathlib.Omega.{arith}
-use lib.ListN.{length, get_or}
-use lib.Ieee.{Float, nan}
+use lib.ListN.{length}
+use lib.Ieee.{Float}
+use Rattle.std.specs.List.{zip}
 use Rattle.converge.specs.Value.{next_of}
 use Rattle.converge.specs.Row.{records_of, nexts_of}
 use Rattle.converge.specs.declared.History.{History}
-
--- What stands at a place beyond a row of records.
-abbrev pub blank : History
-blank = record { x = nan; y = nan }
 
 pub records_length : (x y : List Float) → length x ≡ length y → length (records_of x y) ≡ length x
 unfolding records_of
@@ -40,20 +37,27 @@ nexts_length (a ∷ x) [] past count method e f = absurd (omega arith)
 nexts_length (a ∷ x) (b ∷ y) [] count method e f = absurd (omega arith)
 nexts_length (a ∷ x) (b ∷ y) (p ∷ past) count method e f = ap suc (nexts_length x y past count method (omega arith) (omega arith))
 
--- the record and the next value at place k
-pub records_at : (x y : List Float) (k : ℕ) → k < length x → k < length y
-    → get_or (records_of x y) k blank ≡ record { x = get_or x k nan; y = get_or y k nan }
-unfolding records_of
-records_at [] y k hx hy = absurd (omega arith)
-records_at (a ∷ x) [] k hx hy = absurd (omega arith)
-records_at (a ∷ x) (b ∷ y) zero hx hy = refl
-records_at (a ∷ x) (b ∷ y) (suc k) hx hy = records_at x y k (omega arith) (omega arith)
+-- ---- the rows in the words of the library's zips
 
-pub nexts_at : (x y : List Float) (past : List History) (k count method : ℕ) → k < length x → k < length y → k < length past
-    → get_or (nexts_of x y past count method) k nan ≡ next_of (get_or x k nan) (get_or y k nan) (get_or past k blank) count method
+pub map-map : {A B C : Type 0} (g : B → C) (f : A → B) (l : List A) → map g (map f l) ≡ map (λ v. g (f v)) l
+map-map g f [] = refl
+map-map g f (v ∷ l) = ap (λ t. g (f v) ∷ t) (map-map g f l)
+
+abbrev pub record_of : Float × Float → History
+record_of p = record { x = p.0; y = p.1 }
+
+abbrev pub next_at : ℕ → ℕ → (Float × Float) × History → Float
+next_at count method p = next_of p.0.0 p.0.1 p.1 count method
+
+pub records_map : (x y : List Float) → map record_of (zip x y) ≡ records_of x y
+unfolding records_of
+records_map [] y = refl
+records_map (a ∷ x) [] = refl
+records_map (a ∷ x) (b ∷ y) = ap (λ (l : List History). record_of (a, b) ∷ l) (records_map x y)
+
+pub nexts_map : (x y : List Float) (past : List History) (count method : ℕ) → map (next_at count method) (zip (zip x y) past) ≡ nexts_of x y past count method
 unfolding nexts_of
-nexts_at [] y past k count method hx hy hp = absurd (omega arith)
-nexts_at (a ∷ x) [] past k count method hx hy hp = absurd (omega arith)
-nexts_at (a ∷ x) (b ∷ y) [] k count method hx hy hp = absurd (omega arith)
-nexts_at (a ∷ x) (b ∷ y) (q ∷ past) zero count method hx hy hp = refl
-nexts_at (a ∷ x) (b ∷ y) (q ∷ past) (suc k) count method hx hy hp = nexts_at x y past k count method (omega arith) (omega arith) (omega arith)
+nexts_map [] y past count method = refl
+nexts_map (a ∷ x) [] past count method = refl
+nexts_map (a ∷ x) (b ∷ y) [] count method = refl
+nexts_map (a ∷ x) (b ∷ y) (p ∷ past) count method = ap (λ (l : List Float). next_of a b p count method ∷ l) (nexts_map x y past count method)

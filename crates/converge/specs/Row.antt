@@ -1,10 +1,12 @@
 -- The step of a row of values, with one record for each value and one count.
-use Rattle.std.specs.Prelude.{Bool, true, not, cond, ◌&&◌, ◌||◌, List, [], ◌∷◌, ℕ, ◌+◌, eqb, ltb, length, Float}
+use Rattle.std.specs.Prelude.{◌≡◌, Option, Bool, true, not, cond, ◌&&◌, ◌||◌, List, [], ◌∷◌, ℕ, ◌+◌, eqb, ltb, length, Float}
 use Rattle.std.specs.Float.Ieee.{le}
+use Rattle.std.specs.Option.{option_map_or}
 use Rattle.converge.specs.Doubles.{zero64, finest, coarsest, larger, usable, beyond}
-use Rattle.converge.specs.Answer.{Answer, settled, spent, strayed, moved, refused}
+use Rattle.converge.specs.Answer.{Answer, settled, spent, strayed, moved, refused, answer_of}
 use Rattle.converge.specs.Value.{gap_of, close, next_of, usable_record}
 use Rattle.converge.specs.declared.History.{History}
+use Rattle.converge.specs.declared.Verdict.{Verdict}
 
 -- One history record for each value, holding the x and y of the last accepted move.
 unfoldable pub records_of : List Float → List Float → List History
@@ -87,6 +89,11 @@ judged x y past count method tolerance limit =
     cond (all_close x y tolerance) (settled (largest_of x y))
     (cond (eqb count limit) (spent (largest_of x y))
     (stray_or (nexts_of x y past count method) (moved (largest_of x y))))
+
+-- The verdict, if there is one, that needs no next: Settled or Spent, with `top` for the largest |y − x|. Without one the answer is left for later.
+abbrev pub Settles : List Float → List Float → ℕ → Float → ℕ → Float → Option Verdict → Type 0
+Settles x y count tolerance limit top verdict =
+    (later : Answer) → cond (all_close x y tolerance) (settled top) (cond (eqb count limit) (spent top) later) ≡ option_map_or answer_of verdict later
 
 -- Refused by its number, and changing nothing; else judged.
 unfoldable pub verdict_of : List Float → List Float → List History → ℕ → ℕ → Float → ℕ → Answer

@@ -3,14 +3,16 @@
 // structs; one value, and records lent as two plain rows, step by it.
 #![tactic(auto)]
 
-ghost use Rattle.std.specs.Prelude.{◌≡◌, true, [], ◌∷◌, ◌<◌, cond, map, length, find};
+ghost use Rattle.std.specs.Prelude.{◌≡◌, true, [], ◌∷◌, ◌<◌, ◌≤◌, cond, map, length, find};
 ghost use Rattle.std.specs.Float.Ieee.{le};
 ghost use Rattle.converge.specs.declared.History.{History};
 ghost use Rattle.converge.specs.Doubles.{zero64, lowest, larger, mag, usable, beyond};
-ghost use Rattle.converge.specs.Answer.{answer_of, number_of, method_number, Decodes, Accepts};
+ghost use Rattle.converge.specs.Answer.{number_of, method_number, Decodes, Accepts};
 ghost use Rattle.converge.specs.Promise.{ValueStep, RowStep, HistoryStep, value_stepped, rows_stepped};
-ghost use Rattle.converge.specs.Row.{records_of, largest_of, all_close, nexts_of, usable_row, usable_records, rows_wrong, tolerance_wrong, limit_wrong, records_wrong, refusal_of, judged, stepped};
+ghost use Rattle.converge.specs.Row.{records_of, largest_of, all_close, nexts_of, usable_row, usable_records, rows_wrong, tolerance_wrong, limit_wrong, records_wrong, refusal_of, Settles, stepped};
 ghost use Rattle.converge.specs.Value.{gap_of, close, factor_of, next_of, usable_record};
+
+use rows::{Blank, Row};
 
 // The x and y of a value's last accepted move.
 #[derive(Clone, Copy, Debug, PartialEq)]
@@ -18,6 +20,15 @@ ghost use Rattle.converge.specs.Value.{gap_of, close, factor_of, next_of, usable
 pub struct History {
     pub x: f64,
     pub y: f64,
+}
+
+// What stands in a place beyond a row's records.
+impl Blank for History {
+    ghost blank = { record { x = zero64; y = zero64 } };
+
+    fn blank() -> History {
+        History { x: 0.0, y: 0.0 }
+    }
 }
 
 // How a row is stepped, as the host gives it: any numbers. The method is one too, since a step answers an unknown one with 32.
@@ -80,7 +91,7 @@ impl TryFrom<u32> for Method {
 }
 
 // What a step answers. Settled, Spent and Moved carry the largest |y - x|, Strayed the first next value beyond 1e12.
-// One enum of five cases and no `Result`: by a rule of the project a refusal is a case of the verdict.
+// One enum of five cases and no `Result`: a caller matches all five, and the promises of the three steps speak of it so.
 #[derive(Clone, Copy, Debug, PartialEq)]
 pub enum Verdict {
     Settled(f64),
@@ -166,7 +177,8 @@ fn factor(x: f64, y: f64, past: History) -> f64
     if q <= 0.0 { q } else { 0.0 }
 }
 
-// The next value: y by substitution and at count 0; by Wegstein (q * x) + ((1 - q) * y), or y where q is zero.
+// The next value: y by substitution and at count 0; by Wegstein (q * x) + ((1 - q) * y), or y where q is zero. The method is
+// tested and no closure handed in, since the host gives it as a number for each call.
 #[tactic(auto, unfolding(crate::specs::Value::next_of))]
 fn next_value(x: f64, y: f64, past: History, count: u16, method: Method) -> f64
     ensures { result ≡ next_of x y past count (method_number method) }
@@ -230,9 +242,6 @@ fn records_wrong(history: &[History], count: u16, limit: u32) -> bool
     limit < u32::from(count) || (0 < count && !all_fit_records(history))
 }
 
-// Here and below the rows go apart, as they are lent: a struct of the three would be taken apart again by each function, which reads some
-// of them and changes another.
-
 // The method of a step that isn't refused. The refusals are tried in the order of their numbers.
 #[tactic(auto, unfolding(crate::specs::Row::refusal_of, crate::specs::Row::values_wrong))]
 fn accept(
@@ -278,22 +287,16 @@ fn largest_gap(x: &[f64], y: &[f64]) -> f64
         .unwrap_or(0.0)
 }
 
-// Works out each value's next.
-fn work_out(
-    x: &[f64],
-    y: &[f64],
-    history: &[History],
-    count: u16,
-    method: Method,
-    nexts: &mut [f64],
-)
-    requires { (length x.now ≡ length y.now) × (length x.now ≡ length history.now) × (length x.now ≡ length nexts.old) }
-    ensures { nexts.new ≡ nexts_of x.now y.now history.now count (method_number method) }
+// Each value's next.
+fn nexts_of(x: &[f64], y: &[f64], history: &[History], count: u16, method: Method) -> Row<f64, 16>
+    requires { length x.now ≤ 16 }
+    ensures { result ≡ nexts_of x.now y.now history.now count (method_number method) }
 {
-    // By index: over the rows zipped, the proof did not close, for what is written through a zip is not known after it.
-    for i in 0..nexts.len() {
-        nexts[i] = next_value(x[i], y[i], history[i], count, method);
+    let mut nexts = Row::new();
+    for ((x, y), past) in x.iter().zip(y).zip(history) {
+        nexts.push(next_value(*x, *y, *past, count, method));
     }
+    nexts
 }
 
 // The first next value beyond 1e12 in size.
@@ -303,49 +306,33 @@ fn first_stray(nexts: &[f64]) -> Option<f64>
     nexts.iter().copied().find(|next| is_beyond(*next))
 }
 
-// The verdict of a row that isn't refused. On Moved the next values stand in `nexts`.
-#[tactic(auto, using(crate::proofs::Chains::stray_found, crate::proofs::Chains::stray_none), unfolding(crate::specs::Row::judged))]
-fn judge(
-    x: &[f64],
-    y: &[f64],
-    history: &[History],
-    count: u16,
-    method: Method,
-    terms: Terms,
-    nexts: &mut [f64],
-) -> Verdict
-    requires { (length x.now ≡ length y.now) × (length x.now ≡ length history.now) × (length x.now ≡ length nexts.old) }
-    ensures verdict { answer_of result ≡ judged x.now y.now history.now count (method_number method) terms.tolerance terms.limit }
-    ensures nexts { (answer_of result).number ≡ 4 → nexts.new ≡ nexts_of x.now y.now history.now count (method_number method) }
+// The verdict that needs no next value, Settled or Spent, where there is one. `top` is the largest |y - x|.
+fn settle(x: &[f64], y: &[f64], count: u16, terms: Terms, top: f64) -> Option<Verdict>
+    ensures { Settles x.now y.now count terms.tolerance terms.limit top result }
 {
-    let top = largest_gap(x, y);
     if all_close(x, y, terms.tolerance) {
-        return Verdict::Settled(top);
+        return Some(Verdict::Settled(top));
     }
     if u32::from(count) == terms.limit {
-        return Verdict::Spent(top);
+        return Some(Verdict::Spent(top));
     }
-    work_out(x, y, history, count, method, nexts);
-    match first_stray(nexts) {
-        Some(next) => Verdict::Strayed(next),
-        None => Verdict::Moved(top),
-    }
+    None
 }
 
-// Makes the records of two rows of one length, of x and of y.
-fn make_records(x: &[f64], y: &[f64], history: &mut [History])
-    requires { (length x.now ≡ length y.now) × (length x.now ≡ length history.old) }
-    ensures { history.new ≡ records_of x.now y.now }
+// The records of two rows, of x and of y.
+fn records_of(x: &[f64], y: &[f64]) -> Row<History, 16>
+    requires { length x.now ≤ 16 }
+    ensures { result ≡ records_of x.now y.now }
 {
-    // By index: over the rows zipped, the proof did not close, for what is written through a zip is not known after it.
-    for i in 0..history.len() {
-        history[i] = History { x: x[i], y: y[i] };
+    let mut records = Row::new();
+    for (x, y) in x.iter().zip(y) {
+        records.push(History { x: *x, y: *y });
     }
+    records
 }
 
 // The step of a row of 1 to 16 values, with one record for each value: on Moved the next values stand in x, the records
 // hold this x and y and the count is one more; at every other verdict all stays. Refuses by 30 to 34.
-#[tactic(auto, using(crate::proofs::Lent::history_kept))]
 pub fn step_history(
     x: &mut [f64],
     y: &[f64],
@@ -360,17 +347,18 @@ pub fn step_history(
         Ok(method) => method,
         Err(refusal) => return Verdict::Refused(refusal),
     };
-    let mut row = [0.0; 16];
-    let nexts = &mut row[..x.len()];
-    match judge(x, y, history, n, method, terms, nexts) {
-        Verdict::Moved(top) => {
-            make_records(x, y, history);
-            x.copy_from_slice(nexts);
-            *count = n + 1;
-            Verdict::Moved(top)
-        }
-        verdict => verdict,
+    let top = largest_gap(x, y);
+    if let Some(verdict) = settle(x, y, n, terms, top) {
+        return verdict;
     }
+    let nexts = nexts_of(x, y, history, n, method);
+    if let Some(next) = first_stray(nexts.items()) {
+        return Verdict::Strayed(next);
+    }
+    history.copy_from_slice(records_of(x, y).items());
+    x.copy_from_slice(nexts.items());
+    *count = n + 1;
+    Verdict::Moved(top)
 }
 
 // The step of one value, as rows of one: its verdict, and x, record and count as they stand after it. Refuses by 31 to 34.
@@ -395,7 +383,7 @@ fn write_records(history: &[History], past_x: &mut [f64], past_y: &mut [f64])
     ensures x { past_x.new ≡ map (λ (p : History). p.x) history.now }
     ensures y { past_y.new ≡ map (λ (p : History). p.y) history.now }
 {
-    // By index: over the rows zipped, the proof did not close, for what is written through a zip is not known after it.
+    // By index: what is written through a zip of rows isn't known after it, which was tried.
     for (i, past) in history.iter().enumerate() {
         past_x[i] = past.x;
         past_y[i] = past.y;
@@ -417,9 +405,10 @@ pub fn step_row(
     if n != past_y.len() || 16 < n {
         return Verdict::Refused(Refusal::Rows);
     }
-    let mut records = [History { x: 0.0, y: 0.0 }; 16];
-    let history = &mut records[..n];
-    make_records(past_x, past_y, history);
+    // The step writes where its records are lent, and the items of a `Row` are only read.
+    let mut places = [History::blank(); 16];
+    let history = &mut places[..n];
+    history.copy_from_slice(records_of(past_x, past_y).items());
     let verdict = step_history(x, y, history, count, terms);
     write_records(history, past_x, past_y);
     verdict
