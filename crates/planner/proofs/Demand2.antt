@@ -113,7 +113,7 @@ module _ {us : List ℕ} {ss : List Stream} (good : Good us ss) where
   unit_at_lem p u m = block_places good p u (mem_plan ss (block_at us ss p) u m)
 
   -- a block of the plan is the plan of one of the blocks
-  plan_of_lem : (b : BlockPlan) → Memᴰ b (plan_of us ss) → (block : List ℕ) × Memᴰ block (blocks_of us ss) × (block_plan block ss ≡ b)
+  pub plan_of_lem : (b : BlockPlan) → Memᴰ b (plan_of us ss) → (block : List ℕ) × Memᴰ block (blocks_of us ss) × (block_plan block ss ≡ b)
   unfolding plan_of
   plan_of_lem b m = mathlib.Core.List.Memᴰ.of_map (λ (x : List ℕ). block_plan x ss) (blocks_of us ss) m
 
@@ -133,7 +133,7 @@ module _ {us : List ℕ} {ss : List Stream} (good : Good us ss) where
   listed_below p m = order_below (reach_in us ss) (length us) p m
 
   -- rule 1
-  shared : (p u v : ℕ) → Memᴰ u (plan_at p).units → Memᴰ v us → Memᴰ v (plan_at p).units ↔ SameBlock (Feeds us ss) u v
+  pub shared : (p u v : ℕ) → Memᴰ u (plan_at p).units → Memᴰ v us → Memᴰ v (plan_at p).units ↔ SameBlock (Feeds us ss) u v
   shared p u v m k =
       let i = unit_at_lem p u m in
       let j = at_mem 0 k in (

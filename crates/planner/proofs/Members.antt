@@ -31,6 +31,17 @@ module _ {A : Type 0} where
   pub mem_middle : {x : A} (a b : List A) → Memᴰ x (a ++ (x ∷ b))
   mem_middle a b = Memᴰ.append_right a (Memᴰ.head refl)
 
+  -- with a member more, all the others are still there, and nothing else is
+  pub mem_with : {x : A} (a b : List A) (y : A) → Memᴰ x (a ++ b) → Memᴰ x (a ++ (y ∷ b))
+  mem_with a b y p = ⊎_elim (Memᴰ.append_left (y ∷ b)) (λ q. Memᴰ.append_right a (Memᴰ.tail q)) (Memᴰ.append_cases a p)
+
+  pub mem_without : {x : A} (a b : List A) (y : A) → Memᴰ x (a ++ (y ∷ b)) → (x ≡ y) ⊎ Memᴰ x (a ++ b)
+  mem_without a b y p =
+      ⊎_elim
+      (λ q. inr (Memᴰ.append_left b q))
+      (λ q. ⊎_elim (λ e. inl e) (λ r. inr (Memᴰ.append_right a r)) (Memᴰ.cases_cons q))
+      (Memᴰ.append_cases a p)
+
 -- ---- no number stands twice
 
 pub each_mem : (P : ℕ → Type 0) {S : List ℕ} {x : ℕ} → Each P S → Memᴰ x S → P x

@@ -12,7 +12,7 @@ use Rattle.flowsheet.specs.declared.Stream.{Stream}
 use Rattle.tearing.specs.Order.{Pick, here, there, Perm, none, next, upto, Lex, end, less, same}
 use Rattle.tearing.specs.Row.{weights}
 use Rattle.tearing.proofs.Chosen.{best_order}
-use Rattle.tearing.proofs.Lists.{Distinct, distinct_pick, perm_length}
+use Rattle.tearing.proofs.Lists.{Distinct, distinct_pick, pick-length, perm_length}
 use Rattle.planner.specs.Plan.{row_of, ordered_of}
 use Rattle.planner.proofs.Members.{each_mem}
 
@@ -64,6 +64,18 @@ same_members S (u ∷ o) d e f g =
     (λ x p.
     ⊎_elim (λ q. absurd (each_mem (λ y. u ≡ y → ⊥) e.0 p (sym q))) (λ m. m)
     (pick_mem r.1 x (g x (Memᴰ.tail p)))))
+
+-- a list in which none stands twice is at most as long as one that has all its members
+pub length_within : (S o : List ℕ) → Distinct S → ((x : ℕ) → Memᴰ x S → Memᴰ x o) → length S ≤ length o
+length_within [] o d f = omega arith
+length_within (u ∷ S) o d f =
+    let r = pick_of (f u (Memᴰ.head refl)) in
+    let rest =
+    length_within S r.0 d.1
+    (λ x p.
+    ⊎_elim (λ q. absurd (each_mem (λ y. u ≡ y → ⊥) d.0 p (sym q))) (λ m. m)
+    (pick_mem r.1 x (f x (Memᴰ.tail p)))) in
+    omega (arith, pick-length r.1)
 
 -- ---- carried along a function
 

@@ -6,7 +6,7 @@ use mathlib.Core.Logic.{◌⊎◌, inl, inr, ⊎_elim}
 use mathlib.Core.Path.{◌≡◌, refl, sym, ap, ◌∙◌, subst}
 use Prim.Native.Nat.{ℕ, ◌+◌, ◌*◌, ◌<◌, ◌≤◌}
 use native.Mathlib.Omega.{arith}
-use borrow.Author.Tests.{ltb-false}
+use borrow.Author.Tests.{ltb-false, le-ltb}
 use lib.Dec.{ltb}
 use lib.ListN.{length, get_or, length-append, length-map}
 use Rattle.blocks.specs.Blocks.{members_of, counts_of}
@@ -313,3 +313,13 @@ over_none (c ∷ bs) e b m = go (ltb 12 (length c)) refl (over_none bs) (mathlib
 pub blocks_small : (us : List ℕ) (ss : List Stream) → too_large us ss ≡ false → (b : List ℕ) → Memᴰ b (blocks_of us ss) → length b ≤ 12
 unfolding too_large
 blocks_small us ss e b m = over_none (blocks_of us ss) e b m
+
+none_over : (bs : List (List ℕ)) → ((b : List ℕ) → Memᴰ b bs → length b ≤ 12) → any_over bs ≡ false
+none_over [] f = refl
+none_over (c ∷ bs) f =
+    rw (le-ltb 12 (length c) (f c (mathlib.Core.List.Memᴰ.head refl))) (none_over bs (λ b m. f b (mathlib.Core.List.Memᴰ.tail m)))
+
+-- And where each has, no block is too large.
+pub small_blocks : (us : List ℕ) (ss : List Stream) → ((b : List ℕ) → Memᴰ b (blocks_of us ss) → length b ≤ 12) → too_large us ss ≡ false
+unfolding too_large
+small_blocks us ss f = none_over (blocks_of us ss) f
