@@ -317,9 +317,11 @@ blocks_small us ss e b m = over_none (blocks_of us ss) e b m
 none_over : (bs : List (List ℕ)) → ((b : List ℕ) → Memᴰ b bs → length b ≤ 12) → any_over bs ≡ false
 none_over [] f = refl
 none_over (c ∷ bs) f =
-    rw (le-ltb 12 (length c) (f c (mathlib.Core.List.Memᴰ.head refl))) (none_over bs (λ b m. f b (mathlib.Core.List.Memᴰ.tail m)))
+    let h : length c ≤ 12 = f c (mathlib.Core.List.Memᴰ.head refl) in
+    rw (le-ltb 12 (length c) h) (none_over bs (λ b m. f b (mathlib.Core.List.Memᴰ.tail m)))
 
--- And where each has, no block is too large.
-pub small_blocks : (us : List ℕ) (ss : List Stream) → ((b : List ℕ) → Memᴰ b (blocks_of us ss) → length b ≤ 12) → too_large us ss ≡ false
+-- And where each has, none is too large.
+pub small_blocks : (us : List ℕ) (ss : List Stream) → ((b : List ℕ) → Memᴰ b (blocks_of us ss) → length b ≤ 12)
+    → too_large us ss ≡ false
 unfolding too_large
 small_blocks us ss f = none_over (blocks_of us ss) f
