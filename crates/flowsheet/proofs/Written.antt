@@ -8,13 +8,13 @@ use native.Mathlib.Omega.{arith}
 use lib.ListN.{length, take, drop, take-append-drop, length-drop}
 use lib.Seq.{take-add, take_all, drop-drop}
 use Rattle.rows.specs.Rows.{table}
-use Rattle.words.specs.Words.{number_at, bytes_of}
+use Rattle.words.specs.Words.{number_at, bytes_of, flat}
 use Rattle.words.proofs.Numbers.{Bytes, bytes_of_number}
 use Rattle.rows.proofs.Rows.{length-table}
 use Rattle.flowsheet.specs.Exactly.{GoodHeader, Accepted}
 use Rattle.flowsheet.specs.Image.{unit_count, stream_count, unit_at, unit_list, stream_held, stream_at, stream_list, answer_of, Reading, reading_of}
 use Rattle.flowsheet.specs.Sheet.{sheet_of}
-use Rattle.flowsheet.specs.Written.{flat, header_bytes, unit_bytes, stream_bytes, image_of}
+use Rattle.flowsheet.specs.Written.{header_bytes, unit_bytes, stream_bytes, image_of}
 use Rattle.flowsheet.proofs.Exact.{spare_is, is_accepted}
 use Rattle.flowsheet.proofs.Held.{sheet_same}
 use Rattle.flowsheet.proofs.Records.{reading_accepted}

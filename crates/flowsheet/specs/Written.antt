@@ -1,12 +1,7 @@
 -- A flowsheet's units and streams as an image: the one image that reads as them.
-use Rattle.std.specs.Prelude.{List, [], ◌∷◌, ◌++◌, ℕ, ◌+◌, ◌*◌, length}
-use Rattle.words.specs.Words.{bytes_of}
+use Rattle.std.specs.Prelude.{List, ◌++◌, ℕ, ◌+◌, ◌*◌, length}
+use Rattle.words.specs.Words.{bytes_of, flat}
 use Rattle.flowsheet.specs.declared.Stream.{Stream}
-
--- the bytes of all the records, one after the other
-abbrev pub flat : {A : Type 0} → (A → List ℕ) → List A → List ℕ
-flat f [] = []
-flat f (x ∷ xs) = f x ++ flat f xs
 
 -- "edition (1), unit count U, stream count S, offset of the unit table, offset of the stream table, total length, then four zero bytes"
 unfoldable pub header_bytes : ℕ → ℕ → List ℕ

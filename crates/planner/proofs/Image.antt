@@ -1,43 +1,18 @@
 -- The plan's image as it is written: rows of numbers of 16 bits, one after the other, are stores one after the other, and stores from the
 -- front on are what is laid over a buffer. Assumes nothing.
-use mathlib.Core.List.{List, [], ◌∷◌, ◌++◌, append_assoc, append-nil}
-use mathlib.Core.Path.{◌≡◌, refl, sym, ◌∙◌}
+use mathlib.Core.List.{List, [], ◌∷◌, ◌++◌, append_assoc}
+use mathlib.Core.Path.{◌≡◌, refl, ◌∙◌}
 use Prim.Native.Nat.{ℕ, zero, suc, ◌+◌, ◌*◌, ◌≤◌, ◌<◌}
-use native.Mathlib.Nat.{mul-zero, mul-suc, zero-add}
-use native.Mathlib.Numerals.{add-one}
+use native.Mathlib.Nat.{zero-add}
 use native.Mathlib.Omega.{arith}
-use lib.ListN.{length, get_or, take, length-append}
-use lib.Seq.{sets, sets-eq, take-suc, length-take-le}
-use Rattle.flowsheet.specs.Written.{flat}
-use Rattle.words.specs.Words.{bytes_of, with_number}
-use Rattle.words.proofs.Numbers.{length_bytes, sets-append}
-use Rattle.planner.specs.Image.{image_length, plan_header, plan_numbers, plan_bytes, plan_length, with_numbers, laid_over}
+use lib.ListN.{length, get_or, length-append}
+use lib.Seq.{sets, sets-eq}
+use Rattle.words.specs.Words.{bytes_of, flat, with_numbers}
+use Rattle.words.proofs.Rows.{length-flat, sets_rows}
+use Rattle.planner.specs.Image.{image_length, plan_header, plan_numbers, plan_bytes, plan_length, laid_over}
 use Rattle.planner.specs.Plan.{BlockPlan}
 use Rattle.planner.specs.Tables.{order_table, torn_table, block_table, plan_value}
 use Rattle.planner.specs.declared.Plan.{Plan}
-
-flat_append : {A : Type 0} (f : A → List ℕ) (xs ys : List A) → flat f (xs ++ ys) ≡ flat f xs ++ flat f ys
-flat_append f [] ys = refl
-flat_append f (x ∷ xs) ys = rw (flat_append f xs ys) (sym (append_assoc (f x) (flat f xs) (flat f ys)))
-
-pub length-flat : (k : ℕ) (xs : List ℕ) → length (flat (bytes_of k) xs) ≡ k * length xs
-length-flat k [] = sym (mul-zero k)
-length-flat k (x ∷ xs) = rw (length-append, length_bytes k x, length-flat k xs, mul-suc k (length xs)) (omega arith)
-
--- two rows of numbers, one after the other
-sets_rows : (l : List ℕ) (at : ℕ) (xs ys : List ℕ) → with_numbers (with_numbers l at xs) (at + 2 * length xs) ys ≡ with_numbers l at (xs ++ ys)
-sets_rows l at xs ys =
-    rw (← length-flat 2 xs, flat_append (bytes_of 2) xs ys) (sets-append l at (flat (bytes_of 2) xs) (flat (bytes_of 2) ys))
-
--- a row's first i numbers, and one more
-pub one_more : (l m : List ℕ) (at : ℕ) (row : List ℕ) (i : ℕ) → i < length row → m ≡ with_numbers l at (take i row)
-    → with_number 2 m (at + 2 * i) (get_or row i 0) ≡ with_numbers l at (take (i + 1) row)
-unfolding with_number
-one_more l m at row i h is =
-    let n : length (take i row) ≡ i = length-take-le i row (omega arith) in
-    let t : take (i + 1) row ≡ take i row ++ (get_or row i 0 ∷ []) = rw (add-one i) (take-suc row i 0 h) in
-    let e = sets_rows l at (take i row) (get_or row i 0 ∷ []) in
-    rw (is, t) (rw (n, append-nil (bytes_of 2 (get_or row i 0))) at e)
 
 -- four rows of numbers one after the other from the front on, of which the first has eight
 four_rows : (l head blocks order torn : List ℕ) → length head ≡ 8

@@ -1,9 +1,7 @@
 -- The plan image. "Header, 16 bytes: edition (1), U, block count, torn count, offsets of the block, order and torn tables, total length. The
 -- tables follow in that order without gaps." All of it is 16-bit numbers, so the image is the bytes of a list of numbers.
 use Rattle.std.specs.Prelude.{List, [], ◌∷◌, ◌++◌, ℕ, ◌+◌, ◌*◌, ◌/◌, length, drop}
-use Rattle.std.proofs.lemmas.List.Edits.{sets}
-use Rattle.flowsheet.specs.Written.{flat}
-use Rattle.words.specs.Words.{bytes_of}
+use Rattle.words.specs.Words.{bytes_of, flat}
 use Rattle.planner.specs.declared.Plan.{Plan}
 
 -- how many bytes the image of a plan with so many numbers in its tables has
@@ -20,10 +18,6 @@ plan_numbers blocks order torn = plan_header (length blocks) (length order) (len
 
 unfoldable pub plan_bytes : Plan → List ℕ
 plan_bytes p = flat (bytes_of 2) (plan_numbers p.blocks p.order p.torn)
-
--- the row l with numbers of 16 bits stored one after the other from the byte i on
-abbrev pub with_numbers : List ℕ → ℕ → List ℕ → List ℕ
-with_numbers l i xs = sets l i (flat (bytes_of 2) xs)
 
 -- a lent buffer with these bytes at its front: "Bytes of the lent buffer beyond it stay"
 unfoldable pub laid_over : List ℕ → List ℕ → List ℕ

@@ -1,20 +1,8 @@
 // The plan's image, written into a lent buffer: a header of eight numbers and the three tables, one number of 16 bits after the other.
 ghost use Rattle.std.specs.Prelude.{◌≡◌, ◌+◌, ◌*◌, ◌≤◌, length};
-ghost use Rattle.planner.specs.Image.{plan_header, plan_bytes, plan_length, with_numbers, laid_over};
+ghost use Rattle.planner.specs.Image.{plan_header, plan_bytes, plan_length, laid_over};
 
 use crate::Plan;
-use words::Word;
-
-// Writes the numbers of a row one after the other from the byte `at` on; every other byte stays.
-#[tactic(auto, using(crate::proofs::Image::one_more))]
-fn put_numbers(buffer: &mut [u8], at: usize, row: &[u16])
-    requires { at + 2 * length row.now ≤ length buffer.old }
-    ensures { buffer.new ≡ with_numbers buffer.old at row.now }
-{
-    for (i, number) in row.iter().enumerate() {
-        number.put(buffer, at + 2 * i);
-    }
-}
 
 // The header's eight numbers, of a plan with so many numbers in its tables.
 #[tactic(auto, unfolding(crate::specs::Image::plan_header))]
@@ -59,8 +47,8 @@ pub fn put_plan(plan: &Plan, buffer: &mut [u8])
     let order_at = 16 + 2 * blocks.len();
     let torn_at = order_at + 2 * order.len();
     let front = header(blocks.len(), order.len(), torn.len());
-    put_numbers(buffer, 0, &front);
-    put_numbers(buffer, 16, blocks);
-    put_numbers(buffer, order_at, order);
-    put_numbers(buffer, torn_at, torn);
+    words::put_numbers(buffer, 0, &front);
+    words::put_numbers(buffer, 16, blocks);
+    words::put_numbers(buffer, order_at, order);
+    words::put_numbers(buffer, torn_at, torn);
 }

@@ -1,3 +1,4 @@
 -- The laws that the crates above cite.
 pub mod Numbers
+pub mod Rows
 pub mod Cleared

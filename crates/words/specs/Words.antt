@@ -1,5 +1,5 @@
--- Little-endian numbers in a row of bytes, over the width, and the front of a row cleared.
--- All three are shut: callers go by the laws of proofs/Numbers.antt and proofs/Cleared.antt.
+-- Little-endian numbers in a row of bytes, over the width, rows of them, and the front of a row cleared.
+-- Of numbers, of one written and of what is cleared callers go by the laws of proofs/Numbers.antt and proofs/Cleared.antt: they are shut.
 use Rattle.std.specs.Prelude.{List, [], ◌∷◌, ◌++◌, ℕ, zero, suc, ◌+◌, ◌*◌, ◌/◌, ◌%◌, get_or, drop, replicate}
 use Rattle.std.proofs.lemmas.List.Edits.{sets}
 
@@ -16,6 +16,15 @@ bytes_of (suc k) v = v % 256 ∷ bytes_of k (v / 256)
 -- the row l with the number v in the k bytes from i on
 unfoldable pub with_number : ℕ → List ℕ → ℕ → ℕ → List ℕ
 with_number k l i v = sets l i (bytes_of k v)
+
+-- the bytes of all the records, one after the other
+abbrev pub flat : {A : Type 0} → (A → List ℕ) → List A → List ℕ
+flat f [] = []
+flat f (x ∷ xs) = f x ++ flat f xs
+
+-- the row l with numbers of 16 bits stored one after the other from the byte i on
+abbrev pub with_numbers : List ℕ → ℕ → List ℕ → List ℕ
+with_numbers l i xs = sets l i (flat (bytes_of 2) xs)
 
 -- the row l with its first n bytes zero
 unfoldable pub cleared : List ℕ → ℕ → List ℕ

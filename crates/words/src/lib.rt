@@ -1,9 +1,9 @@
-// Little-endian numbers of 16, 32 and 64 bits at a place of a lent row of bytes, and clearing the front of a row.
+// Little-endian numbers of 16, 32 and 64 bits at a place of a lent row of bytes, rows of such numbers, and clearing the front of a row.
 // Nothing here knows of flowsheets. Each function asks for what its callers can show: that the place lies in the row.
 #![tactic(auto)]
 
-ghost use Rattle.std.specs.Prelude.{◌≡◌, ℕ, ◌+◌, ◌≤◌, length};
-ghost use Rattle.words.specs.Words.{number_at, with_number, cleared};
+ghost use Rattle.std.specs.Prelude.{◌≡◌, ℕ, ◌+◌, ◌*◌, ◌≤◌, length};
+ghost use Rattle.words.specs.Words.{number_at, with_number, with_numbers, cleared};
 
 // A type of number that stands in a row as so many bytes, the low one first. Each wider one is two of half its width, so that one law over
 // the width serves all three; std's `from_le_bytes` would want a law for each.
@@ -69,6 +69,17 @@ impl Word for u64 {
         let high = (self / 4294967296) as u32;
         low.put(row, at);
         high.put(row, at + 4);
+    }
+}
+
+// Writes numbers one after the other from the byte `at` on; every other byte stays.
+#[tactic(auto, using(crate::proofs::Rows::one_more))]
+pub fn put_numbers(row: &mut [u8], at: usize, numbers: &[u16])
+    requires { at + 2 * length numbers.now ≤ length row.old }
+    ensures { row.new ≡ with_numbers row.old at numbers.now }
+{
+    for (i, number) in numbers.iter().enumerate() {
+        number.put(row, at + 2 * i);
     }
 }
 
