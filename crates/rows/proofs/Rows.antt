@@ -6,9 +6,9 @@ use Prim.Native.Nat.{ℕ, zero, suc, ◌+◌, ◌-◌, ◌≤◌, ◌<◌}
 use native.Mathlib.Nat.{eq-or-lt_of_le, le_of_suc-le-suc}
 use native.Mathlib.Numerals.{add-one}
 use native.Mathlib.Omega.{arith}
-use lib.ListN.{length, get_or, set, take, replicate, length-append, length-replicate, get_or-append}
+use lib.ListN.{length, get_or, set, take, drop, replicate, length-append, length-replicate, get_or-append}
 use Rattle.std.proofs.lemmas.List.{length-take-le, take_more_set}
-use lib.Seq.{take_at, set-append_seam, append_snoc, get_or-append_seam}
+use lib.Seq.{take_at, drop_at, set-append_seam, append_snoc, get_or-append_seam}
 use Rattle.rows.specs.Rows.{padded, table}
 
 module _ {A : Type 0} where
@@ -38,6 +38,17 @@ module _ {A : Type 0} where
       ∙ ap (λ (k : ℕ). set (padded n d (take count places)) k v) (sym l)
       ∙ padded_more n d (take count places) v (rw l h)
       ∙ ap (padded n d) (sym (take_more_set places count v (rw e h)))
+
+  -- the items written over, as many as they were, leave the places beyond them blank
+  pub blank_behind : (n : ℕ) (d : A) (count : ℕ) (places xs : List A) → count ≤ n → length places ≡ n
+      → places ≡ padded n d (take count places) → length xs ≡ length (take count places)
+      → xs ++ drop count places ≡ padded n d (take count (xs ++ drop count places))
+  unfolding padded
+  blank_behind n d count places xs h e p same =
+      let l : length (take count places) ≡ count = length-take-le count places (omega (arith, h, e)) in
+      let beyond : drop count places ≡ replicate (n - length (take count places)) d =
+      ap (drop count) p ∙ drop_at (take count places) _ count l in
+      rw (take_at xs (drop count places) count (same ∙ l)) (rw (same, beyond) refl)
 
   -- what is held is what was put in
   pub take-padded : (n : ℕ) (d : A) (xs : List A) → take (length xs) (padded n d xs) ≡ xs

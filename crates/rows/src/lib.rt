@@ -2,7 +2,8 @@
 // `ArrayVec`, since flowsheets and plans are copied by value, and what lies beyond their items is zero and not left open.
 #![tactic(auto)]
 
-ghost use Rattle.std.specs.Prelude.{◌≡◌, ◌≤◌, ◌<◌, ◌+◌, [], ◌∷◌, ◌++◌, ⊤, length};
+ghost use Rattle.std.specs.Prelude.{◌≡◌, ◌≤◌, ◌<◌, ◌+◌, [], ◌∷◌, ◌++◌, ⊤, length, set};
+ghost use Rattle.std.specs.List.{insert, remove};
 ghost use Rattle.std.specs.Float.{binary64};
 ghost use Rattle.std.specs.Float.Ieee.{of_bits};
 
@@ -114,5 +115,38 @@ impl<T: Blank, const N: usize> Row<T, N> {
         for item in items {
             self.push(*item);
         }
+    }
+    // The item in place of the one that stands at `at`.
+    pub fn set(&mut self, at: usize, item: T)
+        requires { at < length self.old }
+        ensures { self.new ≡ set self.old at item }
+    {
+        let items = &mut self.places[..self.count];
+        items[at] = item;
+    }
+
+    // One item more, before the one that stands at `at`.
+    pub fn insert(&mut self, at: usize, item: T)
+        requires { (length self.old < N) × (at ≤ length self.old) }
+        ensures { self.new ≡ insert self.old at item }
+    {
+        let items = self.items();
+        let mut more = Row::new();
+        more.extend(&items[..at]);
+        more.push(item);
+        more.extend(&items[at..]);
+        *self = more;
+    }
+
+    // All items but the one that stands at `at`.
+    pub fn remove(&mut self, at: usize)
+        requires { at < length self.old }
+        ensures { self.new ≡ remove self.old at }
+    {
+        let items = self.items();
+        let mut fewer = Row::new();
+        fewer.extend(&items[..at]);
+        fewer.extend(&items[at + 1..]);
+        *self = fewer;
     }
 }
