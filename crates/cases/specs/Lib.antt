@@ -1,0 +1,2 @@
+-- The definitions that the proved cases go by.
+pub mod Paper
