@@ -22,10 +22,10 @@ use Rattle.planner.specs.Links.{links_of}
 use Rattle.planner.specs.Plan.{BlockPlan, is_torn, block_plan, reach_in, block_at, block_order, blocks_of, too_large, plan_of}
 use Rattle.planner.specs.Tables.{order_table}
 use Rattle.planner.proofs.LeastOrder.{block_rules}
-use Rattle.planner.proofs.Linked.{links_length, links_inside, units_up, link_feeds, feeds_link, same_units, same_places}
+use Rattle.planner.proofs.Linked.{links_length, links_inside, units_up, link_feeds, feeds_link}
 use Rattle.planner.proofs.Members.{mem_at, at_mem, mem_split, mem_middle, distinct_once}
 use Rattle.planner.proofs.OnlyPlan.{rules_only}
-use Rattle.planner.proofs.Parted.{turn, later, plans_of, order_only, plan_mem, mem_plan, blocks_rule4, block_places, places_block, one_place, blocks_at, units_placed, placed_units, plan_units_distinct, plan_distinct, order_parts, blocks_known, blocks_some, blocks_rise, blocks_all, blocks_small}
+use Rattle.planner.proofs.Parted.{turn, later, plans_of, order_only, plan_mem, mem_plan, blocks_rule4, block_places, places_block, block_shares, one_place, blocks_at, units_placed, placed_units, plan_units_distinct, plan_distinct, order_parts, blocks_known, blocks_some, blocks_rise, blocks_all, blocks_small}
 use Rattle.planner.proofs.TornStreams.{torn_is, untorn_stands, streams_rise}
 
 -- where a carried list is cut, the list is cut there
@@ -135,20 +135,9 @@ module _ {us : List ℕ} {ss : List Stream} (good : Good us ss) where
   -- rule 1
   pub shared : (p u v : ℕ) → Memᴰ u (plan_at p).units → Memᴰ v us → Memᴰ v (plan_at p).units ↔ SameBlock (Feeds us ss) u v
   shared p u v m k =
-      let i = unit_at_lem p u m in
-      let j = at_mem 0 k in (
-        λ n.
-            let x = (in_block p j.0 j.1).0 (mathlib.Core.List.Memᴰ.cast j.2 n) in
-            subst (λ (a : ℕ). SameBlock (Feeds us ss) a v) i.2
-            (subst (λ (a : ℕ). SameBlock (Feeds us ss) (get_or us i.0 0) a) j.2
-            (same_units good i.0 j.0 (same_trans (same_sym i.3) x))),
-        λ s.
-            let x =
-            same_places good i.0 j.0 i.1 j.1
-            (subst (λ (a : ℕ). SameBlock (Feeds us ss) a (get_or us j.0 0)) (sym i.2)
-            (subst (λ (a : ℕ). SameBlock (Feeds us ss) u a) (sym j.2) s)) in
-            mathlib.Core.List.Memᴰ.cast (sym j.2) ((in_block p j.0 j.1).1 (same_trans i.3 x)),
-      )
+      let block = block_at us ss p in
+      let r = block_shares good p u v (mem_plan ss block u m) k in
+      (λ n. r.0 (mem_plan ss block v n), λ s. plan_mem ss block v (r.1 s))
 
   -- ---- rule 4
 

@@ -1,6 +1,6 @@
 -- Demand 2 and the laws of the plan that the crates above cite: `Demand2` says what the plan is, `Parted` that its blocks part the units,
 -- `TornStreams` what is torn and how much, `Inside` what a block's plan goes by, `Kept` what an edit leaves of the plan, `Image` its bytes,
--- `ScreenParts` what a screen is handed of it. The others are on the way there.
+-- `ScreenParts` what a screen is handed of it, `Exact` when each number of the table is given. The others are on the way there.
 pub mod Members
 pub mod Found
 pub mod Linked
@@ -18,6 +18,7 @@ pub mod Image
 pub mod ScreenParts
 pub mod SettledImage
 pub mod SettledPlan
+pub mod Exact
 mod Spans
 mod Turns
 mod Ends

@@ -2,11 +2,11 @@
 -- again, so the units of a block are none of those before it. Assumes nothing.
 use mathlib.Core.Bool.{Bool, true, false, true≢false}
 use mathlib.Core.List.{List, [], ◌∷◌, ◌++◌, map, map-append, append-nil, append_assoc, Memᴰ}
-use mathlib.Core.Logic.{◌⊎◌, inl, inr, ⊎_elim}
+use mathlib.Core.Logic.{◌⊎◌, inl, inr, ⊎_elim, ◌↔◌}
 use mathlib.Core.Path.{◌≡◌, refl, sym, ap, ◌∙◌, subst}
 use Prim.Native.Nat.{ℕ, ◌+◌, ◌*◌, ◌<◌, ◌≤◌}
 use native.Mathlib.Omega.{arith}
-use borrow.Author.Tests.{ltb-false, le-ltb}
+use borrow.Author.Tests.{ltb-false, ltb-true}
 use lib.Dec.{ltb}
 use lib.ListN.{length, get_or, length-append, length-map}
 use Rattle.blocks.specs.Blocks.{members_of, counts_of}
@@ -17,15 +17,15 @@ use Rattle.flowsheet.specs.Good.{Good}
 use Rattle.flowsheet.specs.declared.Stream.{Stream}
 use Rattle.blocks.proofs.Blocks.{members_exact, members_rising, members_below}
 use Rattle.blocks.proofs.OrderOf.{order_rule4, order_counts, order_most, order_below}
-use Rattle.blocks.proofs.Paths.{same_sym}
-use Rattle.blocks.proofs.Rule4.{placed_same, placed_left, placed_right, placed_last, rule4_once}
+use Rattle.blocks.proofs.Paths.{same_sym, same_trans}
+use Rattle.blocks.proofs.Rule4.{placed_same, placed_left, placed_last, rule4_once}
 use Rattle.tearing.proofs.Lists.{Distinct, distinct_perm}
-use Rattle.planner.specs.Demand2.{Rises}
+use Rattle.planner.specs.Demand2.{Feeds, Rises}
 use Rattle.planner.specs.Links.{links_of}
 use Rattle.planner.specs.Plan.{BlockPlan, units_in, ordered_of, block_plan, reach_in, block_at, block_order, any_over, blocks_of, too_large, plan_of}
 use Rattle.planner.specs.Tables.{order_table, records_from}
-use Rattle.planner.proofs.Linked.{links_length, links_inside, units_up, units_distinct}
-use Rattle.planner.proofs.Members.{mem_at, at_mem, mem_split, distinct_append, distinct_left, distinct_right, distinct_apart, distinct_place, rises_distinct, rising_rises, rises_map}
+use Rattle.planner.proofs.Linked.{links_length, links_inside, units_up, units_distinct, same_units, same_places}
+use Rattle.planner.proofs.Members.{mem_at, at_mem, mem_split, mem_middle, distinct_append, distinct_left, distinct_right, distinct_apart, distinct_place, rises_distinct, rising_rises, rises_map}
 use Rattle.planner.proofs.Orders.{perm_mem, mem_perm, ordered_perm, ordered_length}
 
 -- ---- rule 4, of any links
@@ -156,6 +156,24 @@ module _ {us : List ℕ} {ss : List Stream} (good : Good us ss) where
   pub one_place : (i j : ℕ) → i < length us → j < length us → get_or us i 0 ≡ get_or us j 0 → i ≡ j
   one_place = distinct_place us (units_distinct good)
 
+  -- Rule 1: a unit is of the block of p exactly when it shares a block with any unit of it.
+  pub block_shares : (p u v : ℕ) → Memᴰ u (block_at us ss p) → Memᴰ v us → Memᴰ v (block_at us ss p) ↔ SameBlock (Feeds us ss) u v
+  block_shares p u v m k =
+      let i = block_places p u m in
+      let j = at_mem 0 k in (
+        λ n.
+            let r = block_places p v n in
+            subst (λ (a : ℕ). SameBlock (Feeds us ss) a v) i.2
+            (subst (λ (a : ℕ). SameBlock (Feeds us ss) (get_or us i.0 0) a) r.2
+            (same_units good i.0 r.0 (same_trans (same_sym i.3) r.3))),
+        λ s.
+            let x =
+            same_places good i.0 j.0 i.1 j.1
+            (subst (λ (a : ℕ). SameBlock (Feeds us ss) a (get_or us j.0 0)) (sym i.2)
+            (subst (λ (a : ℕ). SameBlock (Feeds us ss) u a) (sym j.2) s)) in
+            mathlib.Core.List.Memᴰ.cast (sym j.2) (places_block p j.0 j.1 (same_trans i.3 x)),
+      )
+
   -- the blocks listed by the places o
   abbrev pub blocks_at : List ℕ → List (List ℕ)
   blocks_at o = map (block_at us ss) o
@@ -226,6 +244,13 @@ module _ {us : List ℕ} {ss : List Stream} (good : Good us ss) where
   unfolding blocks_of
   block_of b m = mathlib.Core.List.Memᴰ.of_map (block_at us ss) (block_order us ss) m
 
+  -- It has, with any of its units, those that share a block with that.
+  pub blocks_share : (b : List ℕ) → Memᴰ b (blocks_of us ss) → (u v : ℕ) → Memᴰ u b → Memᴰ v us → Memᴰ v b ↔ SameBlock (Feeds us ss) u v
+  blocks_share b m u v p k =
+      let r = block_of b m in
+      subst (λ (l : List ℕ). Memᴰ v l ↔ SameBlock (Feeds us ss) u v) r.2
+      (block_shares r.0 u v (subst (λ (l : List ℕ). Memᴰ u l) (sym r.2) p) k)
+
   -- A block's numbers rise.
   pub blocks_rise : (b : List ℕ) → Memᴰ b (blocks_of us ss) → Rises b
   blocks_rise b m = let r = block_of b m in subst (λ (l : List ℕ). Rises l) r.2 (block_rises r.0)
@@ -248,13 +273,23 @@ module _ {us : List ℕ} {ss : List Stream} (good : Good us ss) where
       )
 
   -- Each unit is in one of the blocks.
-  pub blocks_all : (u : ℕ) → Memᴰ u us → Memᴰ u (order_table (plan_of us ss))
-  unfolding plan_of blocks_of
-  blocks_all u p =
+  pub unit_block : (u : ℕ) → Memᴰ u us → (b : List ℕ) × Memᴰ b (blocks_of us ss) × Memᴰ u b
+  unfolding blocks_of
+  unit_block u p =
       let j = at_mem 0 p in
-      let o = rule4_once blocks_rule4 j.0 j.1 in
-      let a = subst (λ (l : List ℕ). Placed (Link (links_of us ss)) j.0 l) (sym o.split) (placed_right o.before (here o.same)) in
-      mathlib.Core.List.Memᴰ.cast (sym j.2) (placed_units (block_order us ss) j.0 j.1 a)
+      let o = rule4_once blocks_rule4 j.0 j.1 in (
+        block_at us ss o.place,
+        mathlib.Core.List.Memᴰ.map (block_at us ss)
+            (subst (λ (l : List ℕ). Memᴰ o.place l) (sym o.split) (mem_middle o.before o.after)),
+        mathlib.Core.List.Memᴰ.cast (sym j.2) (places_block o.place j.0 j.1 o.same),
+      )
+
+  -- So it stands in the whole order.
+  pub blocks_all : (u : ℕ) → Memᴰ u us → Memᴰ u (order_table (plan_of us ss))
+  unfolding plan_of
+  blocks_all u p =
+      let r = unit_block u p in
+      order_has u (mathlib.Core.List.Memᴰ.map (λ (x : List ℕ). block_plan x ss) r.1) (plan_mem ss r.0 u r.2)
 
   -- ---- a front part of the blocks
 
@@ -297,7 +332,7 @@ module _ {us : List ℕ} {ss : List Stream} (good : Good us ss) where
       (plan_mem ss b u p) (inside back n))
       (mathlib.Core.List.Memᴰ.append_cases front m)
 
--- ---- no block is too large
+-- ---- whether some block is too large
 
 over_none : (bs : List (List ℕ)) → any_over bs ≡ false → (b : List ℕ) → Memᴰ b bs → length b ≤ 12
 over_none [] e b m = absurd (mathlib.Core.List.Memᴰ.not-nil m)
@@ -314,14 +349,25 @@ pub blocks_small : (us : List ℕ) (ss : List Stream) → too_large us ss ≡ fa
 unfolding too_large
 blocks_small us ss e b m = over_none (blocks_of us ss) e b m
 
-none_over : (bs : List (List ℕ)) → ((b : List ℕ) → Memᴰ b bs → length b ≤ 12) → any_over bs ≡ false
-none_over [] f = refl
-none_over (c ∷ bs) f =
-    let h : length c ≤ 12 = f c (mathlib.Core.List.Memᴰ.head refl) in
-    rw (le-ltb 12 (length c) h) (none_over bs (λ b m. f b (mathlib.Core.List.Memᴰ.tail m)))
+over_some : (bs : List (List ℕ)) → any_over bs ≡ true → (b : List ℕ) × Memᴰ b bs × (12 < length b)
+over_some [] e = absurd (true≢false (sym e))
+over_some (c ∷ bs) e = go (ltb 12 (length c)) refl (over_some bs)
+  where
+    go : (t : Bool) → ltb 12 (length c) ≡ t → (any_over bs ≡ true → (b : List ℕ) × Memᴰ b bs × (12 < length b))
+        → (b : List ℕ) × Memᴰ b (c ∷ bs) × (12 < length b)
+    go true h rest = (c, mathlib.Core.List.Memᴰ.head refl, ltb-true 12 (length c) h)
+    go false h rest = let r = rest (rw h at e) in (r.0, mathlib.Core.List.Memᴰ.tail r.1, r.2)
 
--- And where each has, none is too large.
+-- Where some block is too large, one of them has more.
+pub block_large : (us : List ℕ) (ss : List Stream) → too_large us ss ≡ true → (b : List ℕ) × Memᴰ b (blocks_of us ss) × (12 < length b)
+unfolding too_large
+block_large us ss e = over_some (blocks_of us ss) e
+
+-- And where each has at most 12, none is.
 pub small_blocks : (us : List ℕ) (ss : List Stream) → ((b : List ℕ) → Memᴰ b (blocks_of us ss) → length b ≤ 12)
     → too_large us ss ≡ false
-unfolding too_large
-small_blocks us ss f = none_over (blocks_of us ss) f
+small_blocks us ss f = go (too_large us ss) refl
+  where
+    go : (t : Bool) → too_large us ss ≡ t → t ≡ false
+    go true e = let r = block_large us ss e in absurd (omega (arith, f r.0 r.1, r.2))
+    go false e = refl

@@ -6,3 +6,4 @@ pub mod Image
 pub mod Answer
 pub mod Part
 pub mod Demand2
+pub mod Exactly
