@@ -1,6 +1,6 @@
 -- The torn streams of a list of streams, one stream further. Assumes nothing.
 use mathlib.Core.Bool.{Bool, true, false}
-use mathlib.Core.List.{List, [], ◌∷◌, ◌++◌, append-nil}
+use mathlib.Core.List.{List, [], ◌∷◌, ◌++◌, append-nil, append_assoc}
 use mathlib.Core.Path.{◌≡◌, refl, sym, ap, ◌∙◌}
 use Prim.Native.Nat.{ℕ, ◌+◌, ◌≤◌, ◌<◌}
 use native.Mathlib.Numerals.{add-one}
@@ -21,30 +21,39 @@ torn-append o (x ∷ s) t = go (is_torn o x) refl (torn-append o s t)
     go true e ih = rw (e, ih)
     go false e ih = rw (e, ih)
 
-module _ (o : List ℕ) (ss : List Stream) (i : ℕ) (h : i < length ss) where
-  -- one stream further
-  pub torn_more : is_torn o (get_or ss i no_stream) ≡ true → torn_of o (take (i + 1) ss) ≡ torn_of o (take i ss) ++ ((get_or ss i no_stream).number ∷ [])
-  unfolding torn_of
-  torn_more e = rw (add-one i, take-suc ss i no_stream h, torn-append o (take i ss) (get_or ss i no_stream ∷ []), e)
-
-  pub torn_same : is_torn o (get_or ss i no_stream) ≡ false → torn_of o (take (i + 1) ss) ≡ torn_of o (take i ss)
-  unfolding torn_of
-  torn_same e = rw (add-one i, take-suc ss i no_stream h, torn-append o (take i ss) (get_or ss i no_stream ∷ []), e, append-nil)
-
 -- no more are torn among the first streams than among all
-pub torn_front : (o : List ℕ) (ss : List Stream) (i : ℕ) → length (torn_of o (take i ss)) ≤ length (torn_of o ss)
+torn_front : (o : List ℕ) (ss : List Stream) (i : ℕ) → length (torn_of o (take i ss)) ≤ length (torn_of o ss)
 torn_front o ss i =
     let e : torn_of o ss ≡ torn_of o (take i ss) ++ torn_of o (drop i ss) =
     ap (torn_of o) (sym (take-append-drop i ss)) ∙ torn-append o (take i ss) (drop i ss) in
     omega (arith, ap length e, length-append (torn_of o (take i ss)) (torn_of o (drop i ss)))
 
--- a torn stream is not among those torn before it
-pub torn_before : (o : List ℕ) (ss : List Stream) (i : ℕ) → i < length ss → is_torn o (get_or ss i no_stream) ≡ true
-    → length (torn_of o (take i ss)) < length (torn_of o ss)
-torn_before o ss i h e =
-    omega (
-      arith,
-      ap length (torn_more o ss i h e),
-      length-append (torn_of o (take i ss)) ((get_or ss i no_stream).number ∷ []),
-      torn_front o ss (i + 1),
-    )
+-- one stream further
+module _ (o : List ℕ) (ss : List Stream) (i : ℕ) (h : i < length ss) where
+  torn_more : is_torn o (get_or ss i no_stream) ≡ true → torn_of o (take (i + 1) ss) ≡ torn_of o (take i ss) ++ ((get_or ss i no_stream).number ∷ [])
+  unfolding torn_of
+  torn_more e = rw (add-one i, take-suc ss i no_stream h, torn-append o (take i ss) (get_or ss i no_stream ∷ []), e)
+
+  -- a torn stream goes behind those that are there
+  pub torn_next : (old : List ℕ) → is_torn o (get_or ss i no_stream) ≡ true
+      → old ++ torn_of o (take (i + 1) ss) ≡ (old ++ torn_of o (take i ss)) ++ ((get_or ss i no_stream).number ∷ [])
+  torn_next old e =
+      ap (λ (l : List ℕ). old ++ l) (torn_more e) ∙ sym (append_assoc old (torn_of o (take i ss)) ((get_or ss i no_stream).number ∷ []))
+
+  -- another leaves them as they are
+  pub torn_same : is_torn o (get_or ss i no_stream) ≡ false → torn_of o (take (i + 1) ss) ≡ torn_of o (take i ss)
+  unfolding torn_of
+  torn_same e = rw (add-one i, take-suc ss i no_stream h, torn-append o (take i ss) (get_or ss i no_stream ∷ []), e, append-nil)
+
+  -- where there is room for all that are torn, there is for this one
+  pub torn_room : (old table : List ℕ) → table ≡ old ++ torn_of o (take i ss) → is_torn o (get_or ss i no_stream) ≡ true
+      → length table < length old + length (torn_of o ss)
+  torn_room old table so_far e =
+      omega (
+        arith,
+        ap length so_far,
+        length-append old (torn_of o (take i ss)),
+        ap length (torn_more e),
+        length-append (torn_of o (take i ss)) ((get_or ss i no_stream).number ∷ []),
+        torn_front o ss (i + 1),
+      )

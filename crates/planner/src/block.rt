@@ -80,7 +80,7 @@ fn is_torn(order: &[u16], stream: &Stream) -> bool
 }
 
 // Adds the block's torn streams to the table.
-#[tactic(auto, unfolding(crate::specs::Plan::torn_of))]
+#[tactic(auto, using(crate::proofs::Append::torn_next, crate::proofs::Append::torn_same, crate::proofs::Append::torn_room), unfolding(crate::specs::Plan::torn_of))]
 pub fn add_torn(table: &mut Numbers, order: &[u16], streams: &[Stream])
     requires { length table.old + length (torn_of order.now streams.now) ≤ 256 }
     ensures { table.new ≡ table.old ++ torn_of order.now streams.now }
