@@ -59,11 +59,16 @@ pub plan_read_settled : (image : List ℕ) (room : ℕ) (r s : Result Plan Refus
     → planned s ≡ planned_image image room → r ≡ s
 plan_read_settled image room r s e f = one_plan r s (e ∙ sym f)
 
-pub plan_image_settled : (image buffer work : List ℕ) (r s : Result (Unit {0}) Refusal) (b c w v : List ℕ)
-    → Planning image buffer work (code_of r) b w → Planning image buffer work (code_of s) c v → (r ≡ s) × (b ≡ c) × (w ≡ v)
-plan_image_settled image buffer work r s b c w v e f =
-    let same : code_of r ≡ code_of s = e.number ∙ sym f.number in (
-      one_code r s same,
+-- two results of planning on one image, with one buffer and one memory, have one number and leave both alike
+pub planning_one : {image buffer work b c w v : List ℕ} {m n : ℕ} → Planning image buffer work m b w → Planning image buffer work n c v
+    → (m ≡ n) × (b ≡ c) × (w ≡ v)
+planning_one {image} {buffer} {work} e f =
+    let same = e.number ∙ sym f.number in (
+      same,
       e.written ∙ ap (λ (k : ℕ). buffer_from k (planned_image image (length work)) buffer) same ∙ sym f.written,
       e.memory ∙ sym f.memory,
     )
+
+pub plan_image_settled : (image buffer work : List ℕ) (r s : Result (Unit {0}) Refusal) (b c w v : List ℕ)
+    → Planning image buffer work (code_of r) b w → Planning image buffer work (code_of s) c v → (r ≡ s) × (b ≡ c) × (w ≡ v)
+plan_image_settled image buffer work r s b c w v e f = let one = planning_one e f in (one_code r s one.0, one.1, one.2)
