@@ -1,6 +1,7 @@
 // One block: its units, the weights between them, the order that tears least, and its torn streams.
-ghost use Rattle.std.specs.Prelude.{◌≡◌, ℕ, ◌+◌, ◌^◌, ◌≤◌, ◌<◌, length, get_or, set, ◌++◌};
+ghost use Rattle.std.specs.Prelude.{◌≡◌, ℕ, ◌+◌, ◌*◌, ◌^◌, ◌≤◌, ◌<◌, length, get_or, set, ◌++◌};
 ghost use Rattle.tearing.specs.Row.{total};
+ghost use Rattle.words.specs.Words.{cleared};
 ghost use Rattle.planner.specs.Plan.{units_in, charged, row_of, ordered_of, is_torn, torn_of};
 
 use crate::Numbers;
@@ -57,9 +58,11 @@ fn weights_of(block: &Block, streams: &Streams) -> Weights
     Weights { row }
 }
 
-// The block's units in the order that tears least and, of those, comes first.
+// The block's units in the order that tears least and, of those, comes first. Of the memory it leaves zero what tearing used, four bytes
+// for each set of the units; the rest stay.
 pub fn ordered(block: &Block, streams: &Streams, memory: &mut [u8; 65536]) -> Block
-    ensures { result ≡ ordered_of block.now streams.now }
+    ensures units { result ≡ ordered_of block.now streams.now }
+    ensures work { memory.new ≡ cleared memory.old (4 * 2 ^ length block.now) }
 {
     let weights = weights_of(block, streams);
     let units = block.items();

@@ -1,8 +1,9 @@
 // The plan of a flowsheet: who reaches whom, the blocks in their order, and each block's own order and torn streams.
-ghost use Rattle.std.specs.Prelude.{◌≡◌, [], map, ◌+◌, ◌≤◌, ◌<◌, length};
+ghost use Rattle.std.specs.Prelude.{◌≡◌, [], map, ◌+◌, ◌*◌, ◌^◌, ◌≤◌, ◌<◌, length};
 ghost use Rattle.blocks.specs.Blocks.{members_of};
 ghost use Rattle.blocks.specs.Order.{order_of};
 ghost use Rattle.flowsheet.specs.Good.{GoodSheet};
+ghost use Rattle.words.specs.Words.{cleared};
 ghost use Rattle.planner.specs.Plan.{units_in, ordered_of, torn_of, any_over, plan_of};
 ghost use Rattle.planner.specs.Tables.{with_block, plan_value};
 ghost use Rattle.planner.specs.Answer.{planned, planned_of, work_after, Spent, Sorted};
@@ -42,11 +43,13 @@ fn add_block(plan: &mut Plan, block: &Block, streams: &[Stream])
     plan.blocks.extend(&[first, units, earlier, torn]);
 }
 
-// The units of a place's block, in the block's order.
+// The units of a place's block, in the block's order. Of the memory it leaves zero four bytes for each set of them; the rest stay.
+#[tactic(auto, using(crate::proofs::Orders::ordered_length))]
 fn block_order(sheet: &Flowsheet, reach: &Reach, place: usize, memory: &mut [u8; 65536]) -> Block
     requires places { (reach.now.places ≡ length sheet.now.units) × (place < reach.now.places) }
     requires small { length (members_of reach.now.rows reach.now.places place) ≤ 12 }
-    ensures { result ≡ ordered_of (units_in sheet.now.units (members_of reach.now.rows reach.now.places place)) sheet.now.streams }
+    ensures units { result ≡ ordered_of (units_in sheet.now.units (members_of reach.now.rows reach.now.places place)) sheet.now.streams }
+    ensures work { memory.new ≡ cleared memory.old (4 * 2 ^ length result) }
 {
     let members = reach.members(place);
     let block = block::units_in(sheet.units.items(), members.items());

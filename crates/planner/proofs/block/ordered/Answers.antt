@@ -13,7 +13,7 @@ units_in-requires c =
     let order = c.items.ensures.items ∙ c.order-order.ensures.order in
     rw (order, best-length W n) (omega (arith, ap length units.ensures.items, units.ensures.few), best_at W n)
 
-pub returns : goal.returns
+pub returns-clause-units : goal.returns-clause-units
 unfolding ordered_of units_in
-returns c =
+returns-clause-units c =
     rw (c.units_in.ensures, c.items.ensures.items, c.order-order.ensures.order, c.weights_of-weights.ensures, c.items-units.ensures.items) refl
