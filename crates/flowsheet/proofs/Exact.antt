@@ -41,7 +41,7 @@ and_both false b e = absurd (let z : ◌≡◌ {A = ℕ} 0 1 = cc in omega arith
 
 -- ---- the header
 
-spare_zero : (l : List ℕ) → spare_of l ≡ 0 → SpareZero l
+pub spare_zero : (l : List ℕ) → spare_of l ≡ 0 → SpareZero l
 unfolding number_at
 spare_zero l e i h k = ⊎_elim (at 12 (omega arith)) (λ a. ⊎_elim (at 13 (omega arith)) (λ b. ⊎_elim (at 14 (omega arith)) (λ c. at 15 (omega arith) (omega arith)) (dec_eq i 14)) (dec_eq i 13)) (dec_eq i 12)
   where

@@ -21,7 +21,7 @@ use Rattle.flowsheet.proofs.Exact.{is_accepted}
 use Rattle.flowsheet.proofs.Records.{reading_number, reading_accepted}
 
 -- numbers that are in range and rising, given at each place below n by a function that agrees
-numbered_same : (f g : ℕ → ℕ) (n i : ℕ) → ((j : ℕ) → j < n → g j ≡ f j) → i < n → Numbered f i → Numbered g i
+pub numbered_same : (f g : ℕ → ℕ) (n i : ℕ) → ((j : ℕ) → j < n → g j ≡ f j) → i < n → Numbered f i → Numbered g i
 numbered_same f g n i same h a =
     let e = same i h in
     record {

@@ -5,6 +5,7 @@ pub mod Held
 pub mod Exact
 pub mod Good
 pub mod Written
+pub mod ReadBack
 pub mod Settled
 pub mod Tables
 mod Records
