@@ -1,15 +1,12 @@
 -- What planning answers, from what its parts tell: what reading gave, whether a block is over 12, whether the memory is long enough,
 -- whether the plan fits its buffer. Assumes nothing.
 use mathlib.Core.Bool.{Bool, true, false, cond}
-use mathlib.Core.List.{List, [], ◌∷◌, ◌++◌, map}
+use mathlib.Core.List.{List, [], ◌∷◌, map}
 use mathlib.Core.Path.{◌≡◌, refl, sym, ap, ◌∙◌}
 use Prim.Native.Nat.{ℕ, zero, suc, ◌≤◌, ◌<◌}
-use native.Mathlib.Omega.{arith}
-use borrow.Author.Tests.{le-leb, lt-leb, leb-false}
+use borrow.Author.Tests.{le-leb, lt-leb}
 use lib.Dec.{leb}
-use lib.ListN.{length, take, drop, length-append, length-drop}
-use Rattle.std.proofs.lemmas.List.{length-take}
-use Rattle.std.proofs.lemmas.Slice.{drop-append-drop}
+use lib.ListN.{length}
 use Rattle.blocks.specs.Blocks.{members_of}
 use Rattle.blocks.specs.Order.{order_of}
 use Rattle.blocks.specs.Reach.{reach_of}
@@ -21,11 +18,9 @@ use Rattle.flowsheet.specs.Sheet.{sheet_of}
 use Rattle.flowsheet.specs.declared.Flowsheet.{Flowsheet}
 use Rattle.flowsheet.specs.declared.Refusal.{Refusal as image_refusal}
 use Rattle.flowsheet.specs.declared.Stream.{Stream}
-use Rattle.words.specs.Words.{cleared}
 use Rattle.flowsheet.proofs.Good.{read_good, read_refused}
 use Rattle.flowsheet.proofs.Tables.{number_some}
-use Rattle.words.proofs.Cleared.{cleared_same}
-use Rattle.planner.specs.Answer.{Planned, plan_number, refused_plan, planned, planned_of, planned_from, planned_image, number_from, buffer_from, work_after, Spent, Sorted}
+use Rattle.planner.specs.Answer.{Planned, plan_number, refused_plan, planned, planned_of, planned_from, planned_image, number_from, buffer_from, Sorted}
 use Rattle.planner.specs.Image.{plan_length}
 use Rattle.planner.specs.Links.{links_of}
 use Rattle.planner.specs.Plan.{reach_in, block_at, block_order, blocks_of, any_over, too_large, plan_of}
@@ -86,36 +81,6 @@ module _ (sheet : Flowsheet) (g : GoodSheet sheet) (reach : Reach) (is : reach.r
     pub planned_made : over ≡ false → 65536 ≤ room → (plan : Plan) → plan ≡ plan_value (plan_of us ss) → record { number = 0; plan = plan } ≡ planned_of us ss room
     unfolding planned_of plan_number
     planned_made small h plan made = rw (← large_is, small, le-leb 65536 room h, made)
-
--- ---- the working memory
-
-pub spent-cleared : (before after : List ℕ) → Spent before after → work_after after ≡ work_after before
-unfolding work_after
-spent-cleared before after s =
-    ap (λ (n : ℕ). cond (leb 65536 n) (cleared after 65536) after) s.long ∙ go (leb 65536 (length before)) refl
-  where
-    go : (t : Bool) → leb 65536 (length before) ≡ t
-        → cond (leb 65536 (length before)) (cleared after 65536) after ≡ cond (leb 65536 (length before)) (cleared before 65536) before
-    go true e = rw e (cleared_same after before 65536 s.beyond)
-    go false e = rw e (s.short (leb-false 65536 (length before) e))
-
--- where a memory is long enough its front is written, of any content but as long, and the rest stays
-pub spent_front : (before front : List ℕ) → 65536 ≤ length before → length front ≡ length (take 65536 before) → Spent before (front ++ drop 65536 before)
-spent_front before front h e =
-    let k : length front ≡ 65536 = e ∙ rw length-take (omega arith) in
-    record {
-      long = rw (length-append, length-drop) (omega (arith, k));
-      beyond = drop-append-drop 65536 before front 65536 (omega arith) k;
-      short = λ l. absurd (omega arith);
-    }
-
-pub work_long : (work after : List ℕ) → 65536 ≤ length work → after ≡ cleared work 65536 → after ≡ work_after work
-unfolding work_after
-work_long work after h e = rw (le-leb 65536 (length work) h) e
-
-pub work_short : (work : List ℕ) → length work < 65536 → work ≡ work_after work
-unfolding work_after
-work_short work h = rw (lt-leb 65536 (length work) h)
 
 -- ---- planning on an image
 

@@ -16,6 +16,7 @@ use Rattle.blocks.specs.Reach.{reach_of}
 use Rattle.flowsheet.specs.Good.{Good}
 use Rattle.flowsheet.specs.Sheet.{place_of}
 use Rattle.flowsheet.specs.declared.Stream.{Stream}
+use Rattle.blocks.proofs.OrderOf.{order_most}
 use Rattle.blocks.proofs.Paths.{same_more, block_kept}
 use Rattle.blocks.proofs.Places.{rising_unique}
 use Rattle.planner.specs.Demand2.{Rises, none, more, Feeds}
@@ -343,3 +344,14 @@ large_unit n {ss} none_at front back without with_n = agree (too_large (front ++
         (λ e. inl (omega (arith, ap length (block_alone n none_at k (Memᴰ.cast (sym e) k.some.1)))))
         (λ m. inr (k.some.0, k.some.1, m))
         (mem_without front back n (k.known k.some.0 k.some.1)))
+
+-- ---- nothing
+
+-- A flowsheet of no units and no streams has a plan of no blocks.
+pub plan_none : plan_of [] [] ≡ []
+unfolding plan_of blocks_of block_order
+plan_none = go (order_of (reach_in [] []) 0) (order_most (reach_in [] []) 0)
+  where
+    go : (places : List ℕ) → length places ≤ 0 → map (λ (b : List ℕ). block_plan b []) (map (block_at [] []) places) ≡ []
+    go [] h = refl
+    go (p ∷ places) h = absurd (omega arith)

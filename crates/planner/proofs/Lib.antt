@@ -16,6 +16,7 @@ pub mod Kept
 pub mod Append
 pub mod Image
 pub mod ScreenParts
+pub mod Memory
 pub mod SettledImage
 pub mod SettledPlan
 pub mod Exact

@@ -15,13 +15,13 @@ mod written;
 pub use planning::{plan_image, plan_read};
 use rows::Row;
 pub use screen::part;
-pub use sheet::plan_of;
+pub use sheet::{clear_work, no_plan, plan_of};
 
 // At most 256 numbers of 16 bits.
 pub type Numbers = Row<u16, 256>;
 
 // A plan as its three tables: four numbers for each block, the units in order, the torn streams block by block.
-#[derive(Clone, Copy)]
+#[derive(Clone, Copy, PartialEq)]
 pub struct Plan {
     pub blocks: Numbers,
     pub order: Numbers,

@@ -106,7 +106,7 @@ pub fn planned(sheet: &Flowsheet, work: &mut [u8]) -> Result<Plan, Refusal>
 }
 
 // Clears the first 65,536 bytes of a working memory that has as many; a shorter one stays as it was.
-#[tactic(auto, using(crate::proofs::Answers::work_long, crate::proofs::Answers::work_short))]
+#[tactic(auto, using(crate::proofs::Memory::work_long, crate::proofs::Memory::work_short))]
 pub fn clear_work(work: &mut [u8])
     ensures { work.new ≡ work_after work.old }
 {

@@ -4,6 +4,7 @@
 
 ghost use Rattle.std.specs.Prelude.{◌≡◌, ◌≤◌, ◌<◌, ◌+◌, [], ◌∷◌, ◌++◌, ⊤, length, set};
 ghost use Rattle.std.specs.List.{insert, remove};
+ghost use Rattle.std.specs.Cmp.Lexicographic.{pointwise, lists_per};
 ghost use Rattle.std.specs.Float.{binary64};
 ghost use Rattle.std.specs.Float.Ieee.{of_bits};
 
@@ -76,6 +77,17 @@ impl<T: Blank, const N: usize> Clone for Row<T, N> {
 
     fn clone(&self) -> Result<Self, AllocError> {
         Ok(*self)
+    }
+}
+
+// Rows with the same items are one.
+impl<T: Blank + PartialEq, const N: usize> PartialEq for Row<T, N> {
+    ghost eq = { λ row other. pointwise T.eq row other };
+
+    ghost laws = { lists_per T.PartialEq.laws };
+
+    fn eq(&self, other: &Self) -> bool {
+        self.items() == other.items()
     }
 }
 

@@ -1,6 +1,6 @@
 -- The answer, with the memory cleared after it.
 use Rattle.std.proofs.Common.{◌∙◌}
-use Rattle.planner.proofs.Answers.{spent-cleared}
+use Rattle.planner.proofs.Memory.{spent-cleared}
 use Rattle.planner.proofs.planning.plan_read.Goals as goal
 
 pub returns-clause-work : goal.returns-clause-work

@@ -2,7 +2,8 @@
 -- beyond them stays.
 use Rattle.std.proofs.Common.{ap, sym, ◌∙◌, arith, length, length-take}
 use Rattle.blocks.specs.Reach.{reach_of}
-use Rattle.planner.proofs.Answers.{sorted, planned_made, spent_front}
+use Rattle.planner.proofs.Answers.{sorted, planned_made}
+use Rattle.planner.proofs.Memory.{spent_front}
 use Rattle.planner.proofs.sheet.planned.Goals as goal
 
 pub unwrap-memory-requires : goal.unwrap-memory-requires
