@@ -43,15 +43,15 @@ pub struct Terms {
 #[derive(Clone, Copy, Debug, PartialEq, Eq)]
 pub enum Refusal {
     // Rows of unequal length, empty or over 16.
-    Rows,
+    Rows = 30,
     // Tolerance not from 1e-12 to 0.1.
-    Tolerance,
+    Tolerance = 31,
     // Limit not 1 to 500, or method unknown.
-    Limit,
+    Limit = 32,
     // An x or y not finite or beyond 1e12 in size.
-    Values,
+    Values = 33,
     // Count over limit, or at count over 0 a record value not finite or beyond 1e12.
-    Records,
+    Records = 34,
 }
 
 // The number of a refusal, 30 to 34.
@@ -59,13 +59,7 @@ impl From<Refusal> for u32 {
     ghost from_gives = { λ r n. n ≡ number_of r };
 
     fn from(refusal: Refusal) -> u32 {
-        match refusal {
-            Refusal::Rows => 30,
-            Refusal::Tolerance => 31,
-            Refusal::Limit => 32,
-            Refusal::Values => 33,
-            Refusal::Records => 34,
-        }
+        refusal as u32
     }
 }
 

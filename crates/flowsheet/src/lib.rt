@@ -50,43 +50,32 @@ pub struct Flowsheet {
 #[derive(Clone, Copy, Debug, PartialEq, Eq)]
 pub enum Refusal {
     // 1: fewer than 16 bytes
-    Short,
+    Short = 1,
     // 2: edition not 1
-    Edition,
+    Edition = 2,
     // 3: a spare byte not zero
-    Spare,
+    Spare = 3,
     // 4: U over 64 or S over 256
-    Counts,
+    Counts = 4,
     // 5: offsets, total or lent length differ from the counts
-    Layout,
+    Layout = 5,
     // 6: unit number out of range or not rising
-    UnitNumber,
+    UnitNumber = 6,
     // 7: stream number out of range or not rising
-    StreamNumber,
+    StreamNumber = 7,
     // 8: an end that is neither 0 nor a known unit
-    End,
+    End = 8,
     // 9: both ends 0
-    Outside,
+    Outside = 9,
     // 10: weight out of range
-    Weight,
+    Weight = 10,
 }
 
 impl From<Refusal> for u32 {
     ghost from_gives = { λ refusal number. number ≡ number_of refusal };
 
     fn from(refusal: Refusal) -> u32 {
-        match refusal {
-            Refusal::Short => 1,
-            Refusal::Edition => 2,
-            Refusal::Spare => 3,
-            Refusal::Counts => 4,
-            Refusal::Layout => 5,
-            Refusal::UnitNumber => 6,
-            Refusal::StreamNumber => 7,
-            Refusal::End => 8,
-            Refusal::Outside => 9,
-            Refusal::Weight => 10,
-        }
+        refusal as u32
     }
 }
 
