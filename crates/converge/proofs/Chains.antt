@@ -29,9 +29,8 @@ usable_records_all (p ∷ past) = ap (λ (b : Bool). usable_record p && b) (usab
 
 pub close_all : (x y : List Float) (tolerance : Float) → list_all (λ (p : Float × Float). close p.0 p.1 tolerance) (zip x y) ≡ all_close x y tolerance
 unfolding all_close
-close_all [] y tolerance = refl
-close_all (v ∷ x) [] tolerance = refl
 close_all (v ∷ x) (w ∷ y) tolerance = ap (λ (b : Bool). close v w tolerance && b) (close_all x y tolerance)
+close_all _ _ tolerance = refl
 
 -- ---- the largest |y - x|
 
@@ -40,15 +39,13 @@ gaps x y = map (λ (p : Float × Float). gap_of p.0 p.1) (zip x y)
 
 largest_from_fold : (top : Float) (x y : List Float) → fold larger top (gaps x y) ≡ largest_from top x y
 unfolding largest_from gaps
-largest_from_fold top [] y = refl
-largest_from_fold top (v ∷ x) [] = refl
 largest_from_fold top (v ∷ x) (w ∷ y) = largest_from_fold (larger top (gap_of v w)) x y
+largest_from_fold top _ _ = refl
 
 pub largest_reduce : (x y : List Float) → unwrap_or (reduce larger (map (λ (p : Float × Float). gap_of p.0 p.1) (zip x y))) zero64 ≡ largest_of x y
 unfolding largest_of gaps
-largest_reduce [] y = refl
-largest_reduce (v ∷ x) [] = refl
 largest_reduce (v ∷ x) (w ∷ y) = largest_from_fold (gap_of v w) x y
+largest_reduce _ _ = refl
 
 -- `reduce`, where each call gives h of what it is handed
 module _ {S A F : Type 0} (steps : S → Option A → S → Type 0) (g : Mut F (A × (A × Unit {0})) A) (h : A → A → A) (f : F)

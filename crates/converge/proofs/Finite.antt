@@ -25,9 +25,8 @@ Below (inf s) K = ⊥
 Below (fin s m e) K = m * up e ≤ K * down e
 
 below_finite : (v : Float) (K : ℕ) → Below v K → finite v ≡ true
-below_finite nan K h = absurd h
-below_finite (inf s) K h = absurd h
 below_finite (fin s m e) K h = refl
+below_finite _ K h = absurd h
 
 either_finite : (t : Bool) (x y : Float) → finite x ≡ true → finite y ≡ true → finite (cond t x y) ≡ true
 either_finite true x y a b = a
@@ -36,8 +35,7 @@ either_finite false x y a b = b
 below_mag : (v : Float) (K : ℕ) → Below v K → Below (mag v) K
 unfolding mag
 below_mag nan K h = h
-below_mag (inf s) K h = h
-below_mag (fin s m e) K h = h
+below_mag _ K h = h
 
 -- ---- rounding
 
@@ -82,10 +80,9 @@ round_number f s a c = ap is_nan (round_is f s a c) ∙ units_number_lem f s _ _
 
 le_mag : (v : Float) (m k : ℕ) → T (le (mag v) (fin false m (pos k))) → Below v (m * 2 ^ k)
 unfolding mag le lt eq
-le_mag nan m k h = absurd h
-le_mag (inf s) m k h = absurd h
 le_mag (fin s n e) m k h =
     let z : n * up e * 1 ≤ m * 2 ^ k * down e = at_most (n * up e * 1) (m * 2 ^ k * down e) _ (of_T _ h) in omega arith
+le_mag _ m k h = absurd h
 
 rejoin : (x y I J d g : ℕ) → x ≤ I * d → y ≤ J * g → {K : ℕ} → I + J ≡ K → x * g + y * d ≤ K * (d * g)
 rejoin x y I J d g a b {K} e =
@@ -103,8 +100,7 @@ either_below false x y K a b = b
 neg_below : (x : Float) (K : ℕ) → Below x K → Below (neg x) K
 unfolding neg
 neg_below nan K h = h
-neg_below (inf s) K h = h
-neg_below (fin s m e) K h = h
+neg_below _ K h = h
 
 -- ---- an operation whose exact result is at most K gives at most K, where the format has K
 module _ (K m k : ℕ) (has : round binary64 false K 1 ≡ fin false m (pos k)) where
@@ -122,23 +118,19 @@ module _ (K m k : ℕ) (has : round binary64 false K 1 ≡ fin false m (pos k)) 
 
   mul_below : (I J : ℕ) → I * J ≡ K → (x y : Float) → Below x I → Below y J → Below (mul binary64 x y) (m * 2 ^ k)
   unfolding mul
-  mul_below I J e nan y a b = absurd a
-  mul_below I J e (inf s) y a b = absurd a
-  mul_below I J e (fin s n d) nan a b = absurd b
-  mul_below I J e (fin s n d) (inf t) a b = absurd b
   mul_below I J e (fin s n d) (fin t l g) a b =
       round_below (unlike s t) (n * up d * (l * up g)) (down d * down g) (mul-pos (down_pos d) (down_pos g))
       (subst (λ (r : ℕ). n * up d * (l * up g) ≤ r) (mul-mul-mul_comm I (down d) J (down g) ∙ ap (λ (r : ℕ). r * (down d * down g)) e) (mul-le-mul a b))
+  mul_below I J e (fin s n d) _ a b = absurd b
+  mul_below I J e _ y a b = absurd a
 
   add_below : (I J : ℕ) → I + J ≡ K → (x y : Float) → Below x I → Below y J → Below (add binary64 x y) (m * 2 ^ k)
   unfolding add
-  add_below I J e nan y a b = absurd a
-  add_below I J e (inf s) y a b = absurd a
-  add_below I J e (fin s n d) nan a b = absurd b
-  add_below I J e (fin s n d) (inf t) a b = absurd b
   add_below I J e (fin s n d) (fin t l g) a b =
       sum_below s (n * up d * down g) t (l * up g * down d) (down d * down g) (mul-pos (down_pos d) (down_pos g))
       (rejoin (n * up d) (l * up g) I J (down d) (down g) a b e)
+  add_below I J e (fin s n d) _ a b = absurd b
+  add_below I J e _ y a b = absurd a
 
   sub_below : (I J : ℕ) → I + J ≡ K → (x y : Float) → Below x I → Below y J → Below (sub binary64 x y) (m * 2 ^ k)
   unfolding sub
@@ -177,10 +169,9 @@ has_11e12 = refl
 
 usable_below : (v : Float) → usable v ≡ true → Below v 1000000000000
 unfolding usable mag le lt eq of_bits
-usable_below nan h = false_true h
-usable_below (inf s) h = false_true h
 usable_below (fin s m e) h =
     let z : m * up e * 1 ≤ 1000000000000 * down e = at_most (m * up e * 1) (1000000000000 * down e) _ h in omega arith
+usable_below _ h = false_true h
 
 one_below : Below one64 1
 unfolding of_bits
@@ -188,15 +179,14 @@ one_below = le_refl 1
 
 tolerance_below : (t : Float) → le finest t ≡ true → le t coarsest ≡ true → Below t 1
 unfolding le lt eq of_bits
-tolerance_below nan h k = false_true k
 tolerance_below (inf true) h k = false_true h
-tolerance_below (inf false) h k = false_true k
 tolerance_below (fin true m e) h k =
     let z : 4951760157141521 * 1 * down e ≡ 0 = eqb-true _ _ (and_right (eqb (4951760157141521 * 1 * down e) (m * up e * 2 ^ 92)) _ h) in
     let p : 0 < down e = down_pos e in
     absurd (omega arith)
 tolerance_below (fin false m e) h k =
     let z : m * up e * 2 ^ 55 ≤ 3602879701896397 * 1 * down e = at_most (m * up e * 2 ^ 55) (3602879701896397 * 1 * down e) _ k in omega arith
+tolerance_below _ h k = false_true k
 
 -- ---- the factor: within its bounds for every x, y and record
 
@@ -234,14 +224,13 @@ zero_next x y past count method e = rw (zero_factor x y past e) (same (eqb metho
 
 factor_below : (q : Float) → le lowest q ≡ true → le q zero64 ≡ true → Below q 5
 unfolding le lt eq neg of_bits
-factor_below nan h k = false_true h
-factor_below (inf true) h k = false_true h
 factor_below (inf false) h k = false_true k
 factor_below (fin true m e) h k = let z : m * up e * 1 ≤ 5 * 1 * down e = at_least (m * up e * 1) (5 * 1 * down e) _ h in omega arith
 factor_below (fin false m e) h k =
     let z : m * up e * 1 ≤ 0 * 1 * down e = at_most (m * up e * 1) (0 * 1 * down e) _ k in
     let p : 0 < down e = down_pos e in
     omega arith
+factor_below _ h k = false_true h
 
 -- ---- the quotient
 
@@ -282,13 +271,11 @@ above_zero (fin false m e) h =
 
 div_number : (a b : Float) (K L : ℕ) → Below a K → Below b L → eq b zero64 ≡ false → is_nan (div binary64 a b) ≡ false
 unfolding div eq of_bits
-div_number nan b K L p q h = absurd p
-div_number (inf s) b K L p q h = absurd p
-div_number (fin s m e) nan K L p q h = absurd q
-div_number (fin s m e) (inf t) K L p q h = absurd q
 div_number (fin s m e) (fin t zero d) K L p q h = true_false (sym (zero_level t d) ∙ h)
 div_number (fin s m e) (fin t (suc n) d) K L p q h =
     rw (eqb-suc-zero n) (round_number binary64 (unlike s t) (m * up e * down d) (suc n * up d * down e))
+div_number (fin s m e) _ K L p q h = absurd q
+div_number _ b K L p q h = absurd p
 
 -- below −5 taken as −5, above 0 as 0
 abbrev pub letter : Float → Float

@@ -2,13 +2,13 @@
 -- ordered as the numbers that they are. Assumes nothing.
 use mathlib.Core.Path.{◌≡◌, refl}
 use mathlib.Core.Bool.{Bool, true, false, cond}
-use mathlib.Core.List.{List, [], ◌∷◌}
+use mathlib.Core.List.{List, ◌∷◌}
 use mathlib.Core.Logic.{◌⊎◌, inl, inr}
 use Prim.Native.Nat.{ℕ, zero, suc, ◌*◌, ◌<◌, ◌≤◌}
 use native.Mathlib.Omega.{arith}
 use lib.IntN.{ℤ}
 use lib.ListN.{length, get_or}
-use lib.Ieee.{Float, nan, inf, fin, binary64, up, down, lt, le, eq, sub}
+use lib.Ieee.{Float, nan, fin, binary64, up, down, lt, le, eq, sub}
 use lib.Ieee.Fits.{down_pos}
 use lib.Ieee.Positive.{through}
 use lib.Ieee.Scale.{finite}
@@ -27,9 +27,8 @@ data Size : Float → Type 0 where
 
 mag_size : (v : Float) → finite (mag v) ≡ true → Size (mag v)
 unfolding mag
-mag_size nan h = false_true h
-mag_size (inf s) h = false_true h
 mag_size (fin s m e) h = plain m e
+mag_size _ h = false_true h
 
 gap_size : (x y : Float) → usable x ≡ true → usable y ≡ true → Size (gap_of x y)
 unfolding gap_of
@@ -85,18 +84,15 @@ larger_right {a} {b} s t = go (lt a b) refl
 at_first : (top : Float) (x y : List Float) → Size top → usable_row x ≡ true → usable_row y ≡ true
     → Size (largest_from top x y) × (le top (largest_from top x y) ≡ true)
 unfolding largest_from usable_row
-at_first top [] y s ux uy = (s, le_self s)
-at_first top (a ∷ x) [] s ux uy = (s, le_self s)
 at_first top (a ∷ x) (b ∷ y) s ux uy =
     let g = gap_size a b (and_left _ _ ux) (and_left _ _ uy) in
     let r = at_first (larger top (gap_of a b)) x y (larger_size s g) (and_right (usable a) _ ux) (and_right (usable b) _ uy) in
     (r.0, le_chain s (larger_size s g) r.0 (larger_left s g) r.1)
+at_first top _ _ s ux uy = (s, le_self s)
 
 at_each : (top : Float) (x y : List Float) (k : ℕ) → Size top → usable_row x ≡ true → usable_row y ≡ true → k < length x → k < length y
     → le (gap_of (get_or x k nan) (get_or y k nan)) (largest_from top x y) ≡ true
 unfolding largest_from usable_row
-at_each top [] y k s ux uy h g = absurd (omega arith)
-at_each top (a ∷ x) [] k s ux uy h g = absurd (omega arith)
 at_each top (a ∷ x) (b ∷ y) zero s ux uy h g =
     let d = gap_size a b (and_left _ _ ux) (and_left _ _ uy) in
     let r = at_first (larger top (gap_of a b)) x y (larger_size s d) (and_right (usable a) _ ux) (and_right (usable b) _ uy) in
@@ -104,6 +100,7 @@ at_each top (a ∷ x) (b ∷ y) zero s ux uy h g =
 at_each top (a ∷ x) (b ∷ y) (suc k) s ux uy h g =
     let d = gap_size a b (and_left _ _ ux) (and_left _ _ uy) in
     at_each (larger top (gap_of a b)) x y k (larger_size s d) (and_right (usable a) _ ux) (and_right (usable b) _ uy) (omega arith) (omega arith)
+at_each top _ _ k s ux uy h g = absurd (omega arith)
 
 -- a place of two rows whose |y − x| is v
 abbrev pub Attained : Float → List Float → List Float → Type 0
@@ -111,8 +108,6 @@ Attained v x y = (k : ℕ) × (k < length x) × (v ≡ gap_of (get_or x k nan) (
 
 at_some : (top : Float) (x y : List Float) → (largest_from top x y ≡ top) ⊎ Attained (largest_from top x y) x y
 unfolding largest_from
-at_some top [] y = inl refl
-at_some top (a ∷ x) [] = inl refl
 at_some top (a ∷ x) (b ∷ y) = go (lt top (gap_of a b)) (at_some (larger top (gap_of a b)) x y)
   where
     go : (c : Bool)
@@ -121,6 +116,7 @@ at_some top (a ∷ x) (b ∷ y) = go (lt top (gap_of a b)) (at_some (larger top 
     go true (inl e) = inr (0, omega arith, e)
     go false (inl e) = inl e
     go c (inr w) = inr (suc w.0, omega (arith, w.1), w.2)
+at_some top _ _ = inl refl
 
 -- v is finite; no |y − x| of the rows is larger; and it is one of them
 pub record IsLargest (x y : List Float) (v : Float) : Type 0 where
@@ -130,8 +126,6 @@ pub record IsLargest (x y : List Float) (v : Float) : Type 0 where
 
 pub largest_is : (x y : List Float) → length x ≡ length y → 0 < length x → usable_row x ≡ true → usable_row y ≡ true → IsLargest x y (largest_of x y)
 unfolding largest_of usable_row
-largest_is [] y level some ux uy = absurd (omega arith)
-largest_is (a ∷ x) [] level some ux uy = absurd (omega arith)
 largest_is (a ∷ x) (b ∷ y) level some ux uy =
     record { number = size_finite r.0; above = above; attained = attained (at_some (gap_of a b) x y) }
   where
@@ -149,3 +143,4 @@ largest_is (a ∷ x) (b ∷ y) level some ux uy =
         → Attained (largest_from (gap_of a b) x y) (a ∷ x) (b ∷ y)
     attained (inl e) = (0, omega arith, e)
     attained (inr w) = (suc w.0, omega (arith, w.1), w.2)
+largest_is _ _ level some ux uy = absurd (omega arith)

@@ -17,7 +17,7 @@ use Rattle.converge.specs.Row.{Stepped, kept, after, stepped, all_close, largest
 use Rattle.converge.specs.Promise.{HistoryStep, rows_of, rows_stepped}
 use Rattle.converge.specs.declared.History.{History}
 use Rattle.converge.specs.declared.Refusal.{Refusal}
-use Rattle.converge.specs.declared.Refusal.TheVariants.{Rows, Tolerance, Limit, Values, Records}
+use Rattle.converge.specs.declared.Refusal.TheVariants.{Rows}
 use Rattle.converge.specs.declared.Verdict.{Verdict}
 use Rattle.converge.specs.declared.Verdict.TheVariants.{Strayed, Moved, Refused}
 use Rattle.converge.proofs.Chains.{stray_found, stray_none}
@@ -76,10 +76,7 @@ module _ (x y : List Float) (past : List History) (count method : ℕ) (toleranc
     where
       go : (r : Refusal) → refused (number_of r) ≡ cond (eqb (number_of r) 0) (judged x y past count method tolerance limit) (refused (number_of r))
       go Rows = refl
-      go Tolerance = refl
-      go Limit = refl
-      go Values = refl
-      go Records = refl
+      go _ = refl
 
   verdict_judged : refusal_of x y past count method tolerance limit ≡ 0
       → verdict_of x y past count method tolerance limit ≡ judged x y past count method tolerance limit
@@ -127,9 +124,8 @@ pub early_stays : (x y : List Float) (count : ℕ) (tolerance : Float) (limit : 
 early_stays x y count tolerance limit top v h = ap (λ (a : Answer). eqb a.number 4) (sym (h (spent top))) ∙ go (all_close x y tolerance) (eqb count limit)
   where
     go : (p q : Bool) → eqb (cond p (settled top) (cond q (spent top) (spent top))).number 4 ≡ false
-    go true q = refl
     go false true = refl
-    go false false = refl
+    go _ _ = refl
 
 module _ (x y : List Float) (past : List History) (count method : ℕ) (tolerance : Float) (limit : ℕ) (top : Float) (largest : top ≡ largest_of x y) where
   judged_settles : (o : Option Verdict) → Settles x y count tolerance limit top o

@@ -25,13 +25,10 @@ unfolding rows_wrong
 rows_wrong_lem a b c n = go (eqb a b) (eqb a c) (eqb a 0) (ltb 16 a) refl refl refl
   where
     go : (p q s t : Bool) → eqb a c ≡ q → eqb a 0 ≡ s → ltb 16 a ≡ t → (not p || (not q || (s || t))) ≡ true
-    go false q s t e f g = refl
-    go true false s t e f g = refl
-    go true true true t e f g = refl
-    go true true false true e f g = refl
     go true true false false e f g =
         let z : a ≡ 0 → ⊥ = eqb-false a 0 f in
         absurd (n (eqb-true a c e) (omega arith) (ltb-false 16 a g))
+    go _ _ _ _ e f g = refl
 
 wrong_kept : (x y : List Float) (past : List History) (count method : ℕ) (tolerance : Float) (limit : ℕ) → rows_wrong (length x) (length y) (length past) ≡ true
     → stepped x y past count method tolerance limit ≡ kept x past count (refused 30)

@@ -7,7 +7,7 @@ use Prim.Native.Nat.{ℕ, ◌*◌, ◌<◌, ◌≤◌}
 use native.Mathlib.Omega.{arith}
 use lib.Dec.{ltb}
 use lib.ListN.{length}
-use lib.Ieee.{Float, nan, inf, fin, le, lt, eq, up, down, of_bits}
+use lib.Ieee.{Float, fin, le, lt, eq, up, down, of_bits}
 use lib.Ieee.Scale.{finite}
 use Rattle.converge.specs.Doubles.{finest, coarsest, mag, usable, beyond}
 use Rattle.converge.specs.Value.{usable_record}
@@ -61,11 +61,10 @@ Numbered n = (n ≡ 0) ⊎ ((30 ≤ n) × (n ≤ 34))
 
 pub says_unfit : (v : Float) → Says (not (usable v)) (Unfit v)
 unfolding usable beyond mag le lt eq of_bits
-says_unfit nan = record { holds = λ e. inl refl; fails = λ e. true_false e }
-says_unfit (inf s) = record { holds = λ e. inl refl; fails = λ e. true_false e }
 says_unfit (fin s m e) =
     rw (not_at_most (m * up e * 1) (1000000000000 * down e))
     (record { holds = λ h. inr h; fails = λ h. ⊎_elim (λ (g : true ≡ false). true_false g) (λ (g : ltb (1000000000000 * down e) (m * up e * 1) ≡ true). true_false (sym g ∙ h)) })
+says_unfit _ = record { holds = λ e. inl refl; fails = λ e. true_false e }
 
 says_row : (row : List Float) → Says (not (usable_row row)) (Some Unfit row)
 unfolding usable_row
@@ -111,12 +110,8 @@ module _ (x y : List Float) (past : List History) (count method : ℕ) (toleranc
       (records_wrong past count limit)
     where
       go : (a b c d e : Bool) → Numbered (cond a 30 (cond b 31 (cond c 32 (cond d 33 (cond e 34 0)))))
-      go true b c d e = inr (omega arith, omega arith)
-      go false true c d e = inr (omega arith, omega arith)
-      go false false true d e = inr (omega arith, omega arith)
-      go false false false true e = inr (omega arith, omega arith)
-      go false false false false true = inr (omega arith, omega arith)
       go false false false false false = inl refl
+      go _ _ _ _ _ = inr (omega arith, omega arith)
 
   refusal_first : First (table x y past count method tolerance limit) 0 (refusal_of x y past count method tolerance limit)
   unfolding refusal_of

@@ -25,17 +25,15 @@ records_x (a ∷ x) (b ∷ y) e = ap (λ (l : List Float). a ∷ l) (records_x x
 pub records_y : (x y : List Float) → length x ≡ length y → map (λ (p : History). p.y) (records_of x y) ≡ y
 unfolding records_of
 records_y [] [] e = refl
-records_y [] (b ∷ y) e = absurd (omega arith)
-records_y (a ∷ x) [] e = absurd (omega arith)
 records_y (a ∷ x) (b ∷ y) e = ap (λ (l : List Float). b ∷ l) (records_y x y (omega arith))
+records_y _ _ e = absurd (omega arith)
 
 pub nexts_length : (x y : List Float) (past : List History) (count method : ℕ) → length x ≡ length y → length x ≡ length past
     → length (nexts_of x y past count method) ≡ length x
 unfolding nexts_of
 nexts_length [] y past count method e f = refl
-nexts_length (a ∷ x) [] past count method e f = absurd (omega arith)
-nexts_length (a ∷ x) (b ∷ y) [] count method e f = absurd (omega arith)
 nexts_length (a ∷ x) (b ∷ y) (p ∷ past) count method e f = ap suc (nexts_length x y past count method (omega arith) (omega arith))
+nexts_length _ _ _ count method e f = absurd (omega arith)
 
 -- ---- the rows in the words of the library's zips
 
@@ -51,13 +49,10 @@ next_at count method p = next_of p.0.0 p.0.1 p.1 count method
 
 pub records_map : (x y : List Float) → map record_of (zip x y) ≡ records_of x y
 unfolding records_of
-records_map [] y = refl
-records_map (a ∷ x) [] = refl
 records_map (a ∷ x) (b ∷ y) = ap (λ (l : List History). record_of (a, b) ∷ l) (records_map x y)
+records_map _ _ = refl
 
 pub nexts_map : (x y : List Float) (past : List History) (count method : ℕ) → map (next_at count method) (zip (zip x y) past) ≡ nexts_of x y past count method
 unfolding nexts_of
-nexts_map [] y past count method = refl
-nexts_map (a ∷ x) [] past count method = refl
-nexts_map (a ∷ x) (b ∷ y) [] count method = refl
 nexts_map (a ∷ x) (b ∷ y) (p ∷ past) count method = ap (λ (l : List Float). next_of a b p count method ∷ l) (nexts_map x y past count method)
+nexts_map _ _ _ count method = refl

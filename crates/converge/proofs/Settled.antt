@@ -29,14 +29,8 @@ verdict_back a =
 back_is : (v : Verdict) → verdict_back (answer_of v) ≡ v
 unfolding verdict_back refusal_back
 back_is (Settled d) = refl
-back_is (Spent d) = refl
-back_is (Strayed d) = refl
-back_is (Moved d) = refl
 back_is (Refused Rows) = refl
-back_is (Refused Tolerance) = refl
-back_is (Refused Limit) = refl
-back_is (Refused Values) = refl
-back_is (Refused Records) = refl
+back_is _ = refl
 
 pub answer_one : (v w : Verdict) → answer_of v ≡ answer_of w → v ≡ w
 answer_one v w e = sym (back_is v) ∙ ap verdict_back e ∙ back_is w

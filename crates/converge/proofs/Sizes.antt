@@ -15,8 +15,7 @@ use Rattle.converge.proofs.Flags.{true_false, false_true, or_left, at_least_back
 pub mag_is : (v : Float) → float_with_sign false v ≡ mag v
 unfolding float_with_sign mag
 mag_is nan = refl
-mag_is (inf s) = refl
-mag_is (fin s m e) = refl
+mag_is _ = refl
 
 -- ---- the clamp
 

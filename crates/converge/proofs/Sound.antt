@@ -75,13 +75,11 @@ stray_finite : (x y : List Float) (past : List History) (count method : ℕ) (a 
     → usable_row x ≡ true → usable_row y ≡ true → finite a.carried ≡ true
     → finite (stray_or (nexts_of x y past count method) a).carried ≡ true
 unfolding nexts_of stray_or usable_row
-stray_finite [] y past count method a ux uy e = e
-stray_finite (v ∷ x) [] past count method a ux uy e = e
-stray_finite (v ∷ x) (w ∷ y) [] count method a ux uy e = e
 stray_finite (v ∷ x) (w ∷ y) (p ∷ past) count method a ux uy e =
     carried_cond (beyond (next_of v w p count method)) (strayed (next_of v w p count method)) _
     (next_finite v w (and_left _ _ ux) (and_left _ _ uy) p count method)
     (stray_finite x y past count method a (and_right (usable v) _ ux) (and_right (usable w) _ uy) e)
+stray_finite _ _ _ count method a ux uy e = e
 
 -- The carried double is a finite number for all that can be handed in.
 pub carried_finite : (x y : List Float) (past : List History) (count method : ℕ) (tolerance : Float) (limit : ℕ)
@@ -112,21 +110,18 @@ fit_of v f n = not-false (usable v) (misses (not (usable v)) (says_unfit v) neit
 nexts_usable : (x y : List Float) (past : List History) (count method : ℕ) → usable_row x ≡ true → usable_row y ≡ true
     → (Some Beyond (nexts_of x y past count method) → ⊥) → usable_row (nexts_of x y past count method) ≡ true
 unfolding nexts_of usable_row
-nexts_usable [] y past count method ux uy n = refl
-nexts_usable (v ∷ x) [] past count method ux uy n = refl
-nexts_usable (v ∷ x) (w ∷ y) [] count method ux uy n = refl
 nexts_usable (v ∷ x) (w ∷ y) (p ∷ past) count method ux uy n =
     let f = fit_of (next_of v w p count method) (next_finite v w (and_left _ _ ux) (and_left _ _ uy) p count method) (λ b. n (here b)) in
     let r = nexts_usable x y past count method (and_right (usable v) _ ux) (and_right (usable w) _ uy) (λ s. n (later s)) in
     rw (f, r)
+nexts_usable _ _ _ count method ux uy n = refl
 
 records_usable : (x y : List Float) → usable_row x ≡ true → usable_row y ≡ true → usable_records (records_of x y) ≡ true
 unfolding records_of usable_row usable_records usable_record
-records_usable [] y ux uy = refl
-records_usable (v ∷ x) [] ux uy = refl
 records_usable (v ∷ x) (w ∷ y) ux uy =
     let r = records_usable x y (and_right (usable v) _ ux) (and_right (usable w) _ uy) in
     rw (and_left (usable v) _ ux, and_left (usable w) _ uy, r)
+records_usable _ _ ux uy = refl
 
 -- After Moved the x row and the records are usable again: neither 33 by x nor 34 by a record can come of handing them on.
 pub moved-usable : (x y : List Float) (past : List History) (count method : ℕ) (tolerance : Float) (limit : ℕ)

@@ -313,15 +313,11 @@ module _ (l : List ℕ) where
 
   header_some : {n : ℕ} → HeaderRefusal l n → n ≡ 0 → ⊥
   header_some (short h) e = omega arith
-  header_some (edition h f) e = omega arith
-  header_some (spare h p f) e = omega arith
-  header_some (counts h p s u) e = omega arith
-  header_some (layout h p s u v f) e = omega arith
+  header_some _ e = omega arith
 
   fault_some : {us : List ℕ} {s : Stream} {n : ℕ} → Fault us s n → n ≡ 0 → ⊥
   fault_some (end f) e = omega arith
-  fault_some (outside a b) e = omega arith
-  fault_some (weight a b f h) e = omega arith
+  fault_some _ e = omega arith
 
   stream_some : {i n : ℕ} → StreamRefusal l i n → n ≡ 0 → ⊥
   stream_some (number f) e = omega arith

@@ -34,8 +34,7 @@ place_cases us n = go (place_of us n) refl
 
 both_found : (p q : Option ℕ) (i j : ℕ) → option_and_then {U = ℕ × ℕ} (λ (k : ℕ). option_map (λ (m : ℕ). (k, m)) q) p ≡ Some (i, j) → (p ≡ Some i) × (q ≡ Some j)
 both_found (Some k) (Some m) i j e = let r = some_pair_parts k i m j e in (ap Some r.0, ap Some r.1)
-both_found (Some k) None i j e = absurd (cc)
-both_found None q i j e = absurd (cc)
+both_found _ _ i j e = absurd (cc)
 
 -- a stream's ends that are found are the places of its source and its receiver
 pub ends_found : (us : List ℕ) (s : Stream) (i j : ℕ) → ends_of us s ≡ Some (i, j) → (place_of us s.source ≡ Some i) × (place_of us s.receiver ≡ Some j)

@@ -17,15 +17,7 @@ refusal_from n =
 from_number : (r : Refusal) → refusal_from (number_of r) ≡ r
 unfolding refusal_from
 from_number Short = refl
-from_number Edition = refl
-from_number Spare = refl
-from_number Counts = refl
-from_number Layout = refl
-from_number UnitNumber = refl
-from_number StreamNumber = refl
-from_number End = refl
-from_number Outside = refl
-from_number Weight = refl
+from_number _ = refl
 
 pub one_refusal : (r s : Refusal) → number_of r ≡ number_of s → r ≡ s
 one_refusal r s e = sym (from_number r) ∙ ap refusal_from e ∙ from_number s

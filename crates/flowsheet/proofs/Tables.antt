@@ -5,21 +5,13 @@ use Rattle.flowsheet.specs.Answers.{number_of}
 use Rattle.flowsheet.specs.Image.{first, first_from, before, answered, fault_at}
 use Rattle.flowsheet.specs.Sheet.{in_turn, number_fault}
 use Rattle.flowsheet.specs.declared.Refusal.{Refusal}
-use Rattle.flowsheet.specs.declared.Refusal.TheVariants.{Short, Edition, Spare, Counts, Layout, UnitNumber, StreamNumber, End, Outside, Weight}
+use Rattle.flowsheet.specs.declared.Refusal.TheVariants.{Short}
 use Rattle.flowsheet.proofs.First.{first_given, first_step}
 
 -- a refusal has a number
 pub number_some : (r : Refusal) → number_of r ≡ 0 → ⊥
 number_some Short e = omega arith
-number_some Edition e = omega arith
-number_some Spare e = omega arith
-number_some Counts e = omega arith
-number_some Layout e = omega arith
-number_some UnitNumber e = omega arith
-number_some StreamNumber e = omega arith
-number_some End e = omega arith
-number_some Outside e = omega arith
-number_some Weight e = omega arith
+number_some _ e = omega arith
 
 pub answered_err : {A : Type 0} (r : Refusal) (k : ℕ) (a : A) → k ≡ number_of r → answered k a ≡ Err (number_of r)
 answered_err r k a e = rw e (go (number_of r) (number_some r))

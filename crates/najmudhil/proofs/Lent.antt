@@ -12,7 +12,7 @@ use Rattle.converge.specs.Answer.{Answer, answer_of, number_of, refused, moved}
 use Rattle.converge.specs.Promise.{ValueStep}
 use Rattle.converge.specs.Row.{Stepped}
 use Rattle.converge.specs.declared.Refusal.{Refusal}
-use Rattle.converge.specs.declared.Refusal.TheVariants.{Rows, Tolerance, Limit, Values, Records}
+use Rattle.converge.specs.declared.Refusal.TheVariants.{Rows}
 use Rattle.converge.specs.declared.Step.{Step}
 use Rattle.converge.specs.declared.Verdict.TheVariants.{Moved, Refused}
 use Rattle.words.specs.Words.{with_number}
@@ -52,10 +52,7 @@ module _ (s : Stepped) (x past count answer : List ℕ) where
 -- a refusal's number is not 0
 refusal_some : (e : Refusal) → number_of e ≡ 0 → ⊥
 refusal_some Rows z = omega arith
-refusal_some Tolerance z = omega arith
-refusal_some Limit z = omega arith
-refusal_some Values z = omega arith
-refusal_some Records z = omega arith
+refusal_some _ z = omega arith
 
 -- a result that stands as a statement says
 as_said : {s : Lent} (code : ℕ) (x past count answer : List ℕ) → s ≡ lent code x past count answer → BytesStep s code x past count answer

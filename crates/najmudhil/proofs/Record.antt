@@ -7,7 +7,7 @@ use mathlib.Core.Path.{◌≡◌, refl, sym, ◌∙◌, ap}
 use Prim.Native.Nat.{ℕ, ◌+◌, ◌≤◌}
 use native.Mathlib.Omega.{arith}
 use lib.Dec.{T}
-use lib.Ieee.{Float, nan, inf, fin, binary64, to_bits, is_nan}
+use lib.Ieee.{Float, nan, binary64, to_bits, is_nan}
 use lib.Ieee.Bits.{to_bits-of_bits}
 use lib.Ieee.Scale.{finite}
 use lib.ListN.{length, length-append, drop_of_length-le}
@@ -28,8 +28,7 @@ use Rattle.najmudhil.proofs.Lent.{lengths_right, leaves-moved, bytes_right}
 finite_number : (v : Float) → (finite v ≡ false → ⊥) → T (not (is_nan v))
 unfolding is_nan
 finite_number nan f = absurd (f refl)
-finite_number (inf s) f = tt
-finite_number (fin s m e) f = tt
+finite_number _ f = tt
 
 -- the record of one x and one y, x first
 one_record : (ps : List History) (x y : Float) → map (λ (p : History). p.x) ps ≡ x ∷ [] → map (λ (p : History). p.y) ps ≡ y ∷ [] → values_of ps ≡ x ∷ y ∷ []

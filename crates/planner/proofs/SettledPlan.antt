@@ -16,17 +16,8 @@ refusal_from n =
 from_number : (r : Refusal) → refusal_from (number_of r) ≡ r
 unfolding refusal_from
 from_number (Image Short) = refl
-from_number (Image Edition) = refl
-from_number (Image Spare) = refl
-from_number (Image Counts) = refl
-from_number (Image Layout) = refl
-from_number (Image UnitNumber) = refl
-from_number (Image StreamNumber) = refl
-from_number (Image End) = refl
-from_number (Image Outside) = refl
-from_number (Image Weight) = refl
-from_number LargeBlock = refl
-from_number NoRoom = refl
+from_number (Image _) = refl
+from_number _ = refl
 
 pub one_refusal : (r s : Refusal) → number_of r ≡ number_of s → r ≡ s
 one_refusal r s e = sym (from_number r) ∙ ap refusal_from e ∙ from_number s
