@@ -6,6 +6,7 @@ pub mod Exact
 pub mod Good
 pub mod Written
 pub mod ReadBack
+pub mod Told
 pub mod Settled
 pub mod Tables
 mod Records

@@ -1,16 +1,17 @@
 -- What each public function answers is settled: two results that its statement allows are equal. Assumes nothing.
-use Rattle.std.proofs.Common.{◌≡◌, ℕ, ◌∷◌, List, [], Option, Result, Ok, Err, get_or, refl, sym, ap, ◌∙◌}
+use Rattle.std.proofs.Common.{◌≡◌, ℕ, ◌∷◌, List, [], Option, Result, get_or, refl, sym, ap, ◌∙◌}
 use Rattle.flowsheet.specs.Answers.{number_of, fault_of, reading}
-use Rattle.flowsheet.specs.Image.{Reading, refused_with, reading_of}
+use Rattle.flowsheet.specs.Image.{refused_with, reading_of}
 use Rattle.flowsheet.specs.Sheet.{sheet_of, place_of, ends_of, weight_fault, stream_fault}
 use Rattle.flowsheet.specs.declared.Flowsheet.{Flowsheet}
 use Rattle.flowsheet.specs.declared.Refusal.{Refusal}
 use Rattle.flowsheet.specs.declared.Refusal.TheVariants.{Short, Edition, Spare, Counts, Layout, UnitNumber, StreamNumber, End, Outside, Weight}
 use Rattle.flowsheet.specs.declared.Stream.{Stream}
 use Rattle.flowsheet.proofs.Tables.{number_some}
+use Rattle.flowsheet.proofs.Told.{one_answer}
 
 -- a number is that of one refusal
-refusal_from : ℕ → Refusal
+unfoldable pub refusal_from : ℕ → Refusal
 refusal_from n =
     get_or (Short ∷ (Short ∷ (Edition ∷ (Spare ∷ (Counts ∷ (Layout ∷ (UnitNumber ∷ (StreamNumber ∷ (End ∷ (Outside ∷ (Weight ∷ []))))))))))) n Short
 
@@ -25,17 +26,12 @@ one_refusal r s e = sym (from_number r) ∙ ap refusal_from e ∙ from_number s
 -- two answers with the same reading are equal
 pub one_reading : (r s : Result Flowsheet Refusal) → reading r ≡ reading s → r ≡ s
 unfolding refused_with
-one_reading (Ok f) (Ok g) e = ap (λ (x : Reading). Ok x.sheet) e
-one_reading (Ok f) (Err d) e = absurd (number_some d (sym (ap (λ (x : Reading). x.number) e)))
-one_reading (Err c) (Ok g) e = absurd (number_some c (ap (λ (x : Reading). x.number) e))
-one_reading (Err c) (Err d) e = ap Err (one_refusal c d (ap (λ (x : Reading). x.number) e))
+one_reading =
+    one_answer number_of one_refusal number_some reading (λ x. x.number) (λ x. x.sheet) (λ f. refl) (λ f. refl) (λ c. refl)
 
 -- two answers that carry no value and have the same number are equal
 pub one_fault : (r s : Result (Unit {0}) Refusal) → fault_of r ≡ fault_of s → r ≡ s
-one_fault (Ok f) (Ok g) e = refl
-one_fault (Ok f) (Err d) e = absurd (number_some d (sym e))
-one_fault (Err c) (Ok g) e = absurd (number_some c e)
-one_fault (Err c) (Err d) e = ap Err (one_refusal c d e)
+one_fault = one_answer number_of one_refusal number_some fault_of (λ n. n) (λ n. tt) (λ u. refl) (λ u. refl) (λ c. refl)
 
 pub from : (e : Refusal) (r s : ℕ) → r ≡ number_of e → s ≡ number_of e → r ≡ s
 from e r s p q = p ∙ sym q

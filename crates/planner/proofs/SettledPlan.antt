@@ -1,20 +1,21 @@
 -- What the functions that plan answer is settled, with the memory that they are lent: two results that a statement allows are equal, since
 -- a number is that of one refusal. Assumes nothing.
-use Rattle.std.proofs.Common.{arith, ◌≡◌, ℕ, ◌∷◌, List, [], Result, Ok, Err, get_or, length, refl, sym, ap, ◌∙◌}
+use Rattle.std.proofs.Common.{arith, cond, eqb, ◌≡◌, ℕ, List, Result, length, refl, sym, ap, ◌∙◌}
 use Rattle.flowsheet.specs.declared.Flowsheet.{Flowsheet}
-use Rattle.flowsheet.specs.declared.Refusal.TheVariants.{Short, Edition, Spare, Counts, Layout, UnitNumber, StreamNumber, End, Outside, Weight}
+use Rattle.flowsheet.specs.declared.Refusal.TheVariants.{Short}
 use Rattle.flowsheet.proofs.Tables.{number_some as image_some}
-use Rattle.planner.specs.Answer.{Planned, number_of, planned, planned_of, planned_image, code_of, buffer_from, Planning}
+use Rattle.flowsheet.proofs.Settled.{refusal_from as image_from}
+use Rattle.flowsheet.proofs.Told.{one_answer}
+use Rattle.planner.specs.Answer.{number_of, planned, planned_of, planned_image, code_of, buffer_from, Planning}
 use Rattle.planner.specs.declared.Plan.{Plan}
 use Rattle.planner.specs.declared.Refusal.{Refusal}
 use Rattle.planner.specs.declared.Refusal.TheVariants.{Image, LargeBlock, NoRoom}
 
 refusal_from : ℕ → Refusal
-refusal_from n =
-    get_or (NoRoom ∷ (Image Short ∷ (Image Edition ∷ (Image Spare ∷ (Image Counts ∷ (Image Layout ∷ (Image UnitNumber ∷ (Image StreamNumber ∷ (Image End ∷ (Image Outside ∷ (Image Weight ∷ (LargeBlock ∷ [])))))))))))) n NoRoom
+refusal_from n = cond (eqb n 11) LargeBlock (cond (eqb n 12) NoRoom (Image (image_from n)))
 
 from_number : (r : Refusal) → refusal_from (number_of r) ≡ r
-unfolding refusal_from
+unfolding refusal_from image_from
 from_number (Image Short) = refl
 from_number (Image _) = refl
 from_number _ = refl
@@ -30,17 +31,11 @@ number_some NoRoom e = omega arith
 
 -- two answers that are one plan, or one refusal's number and no plan, are equal
 pub one_plan : (r s : Result Plan Refusal) → planned r ≡ planned s → r ≡ s
-one_plan (Ok p) (Ok q) e = ap (λ (x : Planned). Ok x.plan) e
-one_plan (Ok p) (Err d) e = absurd (number_some d (sym (ap (λ (x : Planned). x.number) e)))
-one_plan (Err c) (Ok q) e = absurd (number_some c (ap (λ (x : Planned). x.number) e))
-one_plan (Err c) (Err d) e = ap Err (one_refusal c d (ap (λ (x : Planned). x.number) e))
+one_plan = one_answer number_of one_refusal number_some planned (λ x. x.number) (λ x. x.plan) (λ p. refl) (λ p. refl) (λ c. refl)
 
 -- and so are two that carry no value and have one code
 pub one_code : (r s : Result (Unit {0}) Refusal) → code_of r ≡ code_of s → r ≡ s
-one_code (Ok f) (Ok g) e = refl
-one_code (Ok f) (Err d) e = absurd (number_some d (sym e))
-one_code (Err c) (Ok g) e = absurd (number_some c e)
-one_code (Err c) (Err d) e = ap Err (one_refusal c d e)
+one_code = one_answer number_of one_refusal number_some code_of (λ n. n) (λ n. tt) (λ u. refl) (λ u. refl) (λ c. refl)
 
 pub plan_of_settled : (sheet : Flowsheet) (room : ℕ) (r s : Result Plan Refusal) → planned r ≡ planned_of sheet.units sheet.streams room
     → planned s ≡ planned_of sheet.units sheet.streams room → r ≡ s
