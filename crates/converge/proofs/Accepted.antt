@@ -1,6 +1,6 @@
 -- What holds of a step that isn't refused: each of the five tests failed, and a failed test is taken apart. Assumes nothing.
 use mathlib.Core.Path.{◌≡◌, refl, sym}
-use mathlib.Core.Bool.{Bool, true, false, not, cond, ◌&&◌, ◌||◌}
+use mathlib.Core.Bool.{Bool, true, false, not, cond, ◌&&◌}
 use mathlib.Core.List.{List}
 use mathlib.Core.Logic.{◌⊎◌, inl, inr, ⊎_map}
 use Prim.Native.Nat.{ℕ, ◌<◌, ◌≤◌}
@@ -9,6 +9,7 @@ use lib.Dec.{eqb, ltb}
 use lib.ListN.{length}
 use lib.Ieee.{Float, le}
 use borrow.Author.Tests.{ltb-false, eqb-true, eqb-false, lt-ltb, not-false}
+use Rattle.std.proofs.lemmas.Bool.{or_parts}
 use Rattle.converge.specs.Doubles.{finest, coarsest}
 use Rattle.converge.specs.Row.{usable_row, usable_records, rows_wrong, tolerance_wrong, limit_wrong, values_wrong, records_wrong, refusal_of}
 use Rattle.converge.specs.declared.History.{History}
@@ -33,10 +34,6 @@ passed : (b : Bool) (k n : ℕ) → (k ≡ 0 → ⊥) → cond b k n ≡ 0 → (
 passed true k n h e = absurd (h e)
 passed false k n h e = (refl, e)
 
-or_false : (a b : Bool) → (a || b) ≡ false → (a ≡ false) × (b ≡ false)
-or_false true b e = true_false e
-or_false false b e = (refl, e)
-
 either_known : (a b : Bool) → (not a && not b) ≡ false → (a ≡ true) ⊎ (b ≡ true)
 either_known true b e = inl refl
 either_known false true e = inr refl
@@ -56,14 +53,14 @@ module _ (x y : List Float) (past : List History) (count method : ℕ) (toleranc
       let c = passed (limit_wrong limit method) 32 _ (n 32 (omega arith)) b.1 in
       let d = passed (values_wrong x y) 33 _ (n 33 (omega arith)) c.1 in
       let f = passed (records_wrong past count limit) 34 0 (n 34 (omega arith)) d.1 in
-      let a1 = or_false (not (eqb (length x) (length y))) _ a.0 in
-      let a2 = or_false (not (eqb (length x) (length past))) _ a1.1 in
-      let a3 = or_false (eqb (length x) 0) (ltb 16 (length x)) a2.1 in
-      let b1 = or_false (not (le finest tolerance)) (not (le tolerance coarsest)) b.0 in
-      let c1 = or_false (eqb limit 0) _ c.0 in
-      let c2 = or_false (ltb 500 limit) _ c1.1 in
-      let d1 = or_false (not (usable_row x)) (not (usable_row y)) d.0 in
-      let f1 = or_false (ltb limit count) _ f.0 in
+      let a1 = or_parts (not (eqb (length x) (length y))) _ a.0 in
+      let a2 = or_parts (not (eqb (length x) (length past))) _ a1.1 in
+      let a3 = or_parts (eqb (length x) 0) (ltb 16 (length x)) a2.1 in
+      let b1 = or_parts (not (le finest tolerance)) (not (le tolerance coarsest)) b.0 in
+      let c1 = or_parts (eqb limit 0) _ c.0 in
+      let c2 = or_parts (ltb 500 limit) _ c1.1 in
+      let d1 = or_parts (not (usable_row x)) (not (usable_row y)) d.0 in
+      let f1 = or_parts (ltb limit count) _ f.0 in
       let none : length x ≡ 0 → ⊥ = eqb-false (length x) 0 a3.0 in
       let off : limit ≡ 0 → ⊥ = eqb-false limit 0 c1.0 in
       record {

@@ -1,105 +1,62 @@
--- The largest |y − x| of usable rows: it is one of them, and none is larger. Sizes are doubles without a sign, which are
--- ordered as the numbers that they are. Assumes nothing.
+-- The largest |y − x| of usable rows: it is one of them, and none is larger. Assumes nothing.
 use mathlib.Core.Path.{◌≡◌, refl}
 use mathlib.Core.Bool.{Bool, true, false, cond}
 use mathlib.Core.List.{List, ◌∷◌}
 use mathlib.Core.Logic.{◌⊎◌, inl, inr}
-use Prim.Native.Nat.{ℕ, zero, suc, ◌*◌, ◌<◌, ◌≤◌}
+use Prim.Native.Nat.{ℕ, zero, suc, ◌<◌}
 use native.Mathlib.Omega.{arith}
-use lib.IntN.{ℤ}
 use lib.ListN.{length, get_or}
-use lib.Ieee.{Float, nan, fin, binary64, up, down, lt, le, eq, sub}
-use lib.Ieee.Fits.{down_pos}
-use lib.Ieee.Positive.{through}
+use lib.Ieee.{Float, nan, lt, le}
 use lib.Ieee.Scale.{finite}
-use borrow.Author.Tests.{ltb-false}
-use Rattle.converge.specs.Doubles.{mag, larger, usable}
+use Rattle.std.specs.Float.{◌≤ᶠ◌}
+use Rattle.std.proofs.lemmas.Bool.{and_parts, cond_both}
+use Rattle.std.proofs.lemmas.Float.{le_refl, le_of_lt, le_of_not-lt, le_trans, T_from_true, T_from_false}
+use Rattle.converge.specs.Doubles.{larger, usable}
 use Rattle.converge.specs.Value.{gap_of}
 use Rattle.converge.specs.Row.{largest_from, largest_of, usable_row}
-use Rattle.converge.proofs.Flags.{false_true, and_left, and_right, or_left, at_most, at_most_back}
+use Rattle.converge.proofs.Flags.{of_T, either}
+use Rattle.converge.proofs.Sizes.{finite_number}
 use Rattle.converge.proofs.Finite.{gap_finite}
 
--- ---- sizes and their order
+-- ---- the larger of two finite doubles is finite, and neither is above it
 
--- a finite double without a sign
-data Size : Float → Type 0 where
-  plain : (m : ℕ) (e : ℤ) → Size (fin false m e)
+module _ (a b : Float) (s : finite a ≡ true) (t : finite b ≡ true) where
+  larger_finite : finite (larger a b) ≡ true
+  larger_finite = either (λ (v : Float). finite v ≡ true) (lt a b) t s
 
-mag_size : (v : Float) → finite (mag v) ≡ true → Size (mag v)
-unfolding mag
-mag_size (fin s m e) h = plain m e
-mag_size _ h = false_true h
+  larger_left : a ≤ᶠ larger a b
+  larger_left = cond_both (lt a b) b a (λ v. a ≤ᶠ v) (λ e. le_of_lt a b (T_from_true _ e)) (λ e. le_refl a (finite_number a s))
 
-gap_size : (x y : Float) → usable x ≡ true → usable y ≡ true → Size (gap_of x y)
-unfolding gap_of
-gap_size x y ux uy = mag_size (sub binary64 y x) (gap_finite x y ux uy)
-
-size_finite : {v : Float} → Size v → finite v ≡ true
-size_finite (plain m e) = refl
-
-le_by : (m n : ℕ) (e d : ℤ) → m * up e * down d ≤ n * up d * down e → le (fin false m e) (fin false n d) ≡ true
-unfolding le lt eq
-le_by m n e d h = at_most_back (m * up e * down d) (n * up d * down e) h
-
-by_le : (m n : ℕ) (e d : ℤ) → le (fin false m e) (fin false n d) ≡ true → m * up e * down d ≤ n * up d * down e
-unfolding le lt eq
-by_le m n e d h = at_most (m * up e * down d) (n * up d * down e) _ h
-
-le_self : {a : Float} → Size a → le a a ≡ true
-le_self (plain m e) = le_by m m e e (omega arith)
-
-le_chain : {a b c : Float} → Size a → Size b → Size c → le a b ≡ true → le b c ≡ true → le a c ≡ true
-le_chain (plain m e) (plain n d) (plain l g) h k =
-    le_by m l e g (through (m * up e) (n * up d) (l * up g) (down e) (down d) (down g) (down_pos d) (by_le m n e d h) (by_le n l d g k))
-
--- the larger of two is a size, and neither is above it
-larger_size : {a b : Float} → Size a → Size b → Size (larger a b)
-larger_size {a} {b} s t = go (lt a b)
-  where
-    go : (c : Bool) → Size (cond c b a)
-    go true = t
-    go false = s
-
-larger_left : {a b : Float} → Size a → Size b → le a (larger a b) ≡ true
-unfolding le
-larger_left {a} {b} s t = go (lt a b) refl
-  where
-    go : (c : Bool) → lt a b ≡ c → le a (cond c b a) ≡ true
-    go true e = or_left (lt a b) (eq a b) e
-    go false e = le_self s
-
-not_less : {a b : Float} → Size a → Size b → lt a b ≡ false → le b a ≡ true
-unfolding lt
-not_less (plain m e) (plain n d) h = le_by n m d e (ltb-false (m * up e * down d) (n * up d * down e) h)
-
-larger_right : {a b : Float} → Size a → Size b → le b (larger a b) ≡ true
-larger_right {a} {b} s t = go (lt a b) refl
-  where
-    go : (c : Bool) → lt a b ≡ c → le b (cond c b a) ≡ true
-    go true e = le_self t
-    go false e = not_less s t e
+  larger_right : b ≤ᶠ larger a b
+  larger_right =
+      cond_both (lt a b) b a (λ v. b ≤ᶠ v) (λ e. le_refl b (finite_number b t))
+      (λ e. le_of_not-lt a b (finite_number a s) (finite_number b t) (T_from_false _ e))
 
 -- ---- rows
 
-at_first : (top : Float) (x y : List Float) → Size top → usable_row x ≡ true → usable_row y ≡ true
-    → Size (largest_from top x y) × (le top (largest_from top x y) ≡ true)
+at_first : (top : Float) (x y : List Float) → finite top ≡ true → usable_row x ≡ true → usable_row y ≡ true
+    → (finite (largest_from top x y) ≡ true) × (top ≤ᶠ largest_from top x y)
 unfolding largest_from usable_row
 at_first top (a ∷ x) (b ∷ y) s ux uy =
-    let g = gap_size a b (and_left _ _ ux) (and_left _ _ uy) in
-    let r = at_first (larger top (gap_of a b)) x y (larger_size s g) (and_right (usable a) _ ux) (and_right (usable b) _ uy) in
-    (r.0, le_chain s (larger_size s g) r.0 (larger_left s g) r.1)
-at_first top _ _ s ux uy = (s, le_self s)
+    let u = and_parts (usable a) _ ux in
+    let w = and_parts (usable b) _ uy in
+    let g = gap_finite a b u.0 w.0 in
+    let r = at_first (larger top (gap_of a b)) x y (larger_finite top _ s g) u.1 w.1 in
+    (r.0, le_trans top (larger top (gap_of a b)) _ (larger_left top _ s g) r.1)
+at_first top _ _ s ux uy = (s, le_refl top (finite_number top s))
 
-at_each : (top : Float) (x y : List Float) (k : ℕ) → Size top → usable_row x ≡ true → usable_row y ≡ true → k < length x → k < length y
-    → le (gap_of (get_or x k nan) (get_or y k nan)) (largest_from top x y) ≡ true
+at_each : (top : Float) (x y : List Float) (k : ℕ) → finite top ≡ true → usable_row x ≡ true → usable_row y ≡ true → k < length x → k < length y
+    → gap_of (get_or x k nan) (get_or y k nan) ≤ᶠ largest_from top x y
 unfolding largest_from usable_row
 at_each top (a ∷ x) (b ∷ y) zero s ux uy h g =
-    let d = gap_size a b (and_left _ _ ux) (and_left _ _ uy) in
-    let r = at_first (larger top (gap_of a b)) x y (larger_size s d) (and_right (usable a) _ ux) (and_right (usable b) _ uy) in
-    le_chain d (larger_size s d) r.0 (larger_right s d) r.1
+    let u = and_parts (usable a) _ ux in
+    let w = and_parts (usable b) _ uy in
+    let d = gap_finite a b u.0 w.0 in
+    le_trans (gap_of a b) (larger top (gap_of a b)) _ (larger_right top _ s d) (at_first (larger top (gap_of a b)) x y (larger_finite top _ s d) u.1 w.1).1
 at_each top (a ∷ x) (b ∷ y) (suc k) s ux uy h g =
-    let d = gap_size a b (and_left _ _ ux) (and_left _ _ uy) in
-    at_each (larger top (gap_of a b)) x y k (larger_size s d) (and_right (usable a) _ ux) (and_right (usable b) _ uy) (omega arith) (omega arith)
+    let u = and_parts (usable a) _ ux in
+    let w = and_parts (usable b) _ uy in
+    at_each (larger top (gap_of a b)) x y k (larger_finite top _ s (gap_finite a b u.0 w.0)) u.1 w.1 (omega arith) (omega arith)
 at_each top _ _ k s ux uy h g = absurd (omega arith)
 
 -- a place of two rows whose |y − x| is v
@@ -127,17 +84,23 @@ pub record IsLargest (x y : List Float) (v : Float) : Type 0 where
 pub largest_is : (x y : List Float) → length x ≡ length y → 0 < length x → usable_row x ≡ true → usable_row y ≡ true → IsLargest x y (largest_of x y)
 unfolding largest_of usable_row
 largest_is (a ∷ x) (b ∷ y) level some ux uy =
-    record { number = size_finite r.0; above = above; attained = attained (at_some (gap_of a b) x y) }
+    record { number = r.0; above = above; attained = attained (at_some (gap_of a b) x y) }
   where
-    d : Size (gap_of a b)
-    d = gap_size a b (and_left _ _ ux) (and_left _ _ uy)
+    u : (usable a ≡ true) × (usable_row x ≡ true)
+    u = and_parts (usable a) _ ux
 
-    r : Size (largest_from (gap_of a b) x y) × (le (gap_of a b) (largest_from (gap_of a b) x y) ≡ true)
-    r = at_first (gap_of a b) x y d (and_right (usable a) _ ux) (and_right (usable b) _ uy)
+    w : (usable b ≡ true) × (usable_row y ≡ true)
+    w = and_parts (usable b) _ uy
+
+    d : finite (gap_of a b) ≡ true
+    d = gap_finite a b u.0 w.0
+
+    r : (finite (largest_from (gap_of a b) x y) ≡ true) × (gap_of a b ≤ᶠ largest_from (gap_of a b) x y)
+    r = at_first (gap_of a b) x y d u.1 w.1
 
     above : (k : ℕ) → k < suc (length x) → le (gap_of (get_or (a ∷ x) k nan) (get_or (b ∷ y) k nan)) (largest_from (gap_of a b) x y) ≡ true
-    above zero h = r.1
-    above (suc k) h = at_each (gap_of a b) x y k d (and_right (usable a) _ ux) (and_right (usable b) _ uy) (omega arith) (omega arith)
+    above zero h = of_T _ r.1
+    above (suc k) h = of_T _ (at_each (gap_of a b) x y k d u.1 w.1 (omega arith) (omega arith))
 
     attained : (largest_from (gap_of a b) x y ≡ gap_of a b) ⊎ Attained (largest_from (gap_of a b) x y) x y
         → Attained (largest_from (gap_of a b) x y) (a ∷ x) (b ∷ y)

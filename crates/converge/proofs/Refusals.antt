@@ -3,17 +3,17 @@ use mathlib.Core.Path.{◌≡◌, refl, sym, ◌∙◌, subst}
 use mathlib.Core.Bool.{Bool, true, false, not, cond}
 use mathlib.Core.List.{List, [], ◌∷◌}
 use mathlib.Core.Logic.{◌⊎◌, inl, inr, ⊎_elim, ◌↔◌}
-use Prim.Native.Nat.{ℕ, ◌*◌, ◌<◌, ◌≤◌}
+use Prim.Native.Nat.{ℕ, ◌<◌, ◌≤◌}
 use native.Mathlib.Omega.{arith}
-use lib.Dec.{ltb}
 use lib.ListN.{length}
-use lib.Ieee.{Float, fin, le, lt, eq, up, down, of_bits}
+use lib.Ieee.{Float, fin, le, lt, eq, of_bits, is_nan}
 use lib.Ieee.Scale.{finite}
-use Rattle.converge.specs.Doubles.{finest, coarsest, mag, usable, beyond}
+use Rattle.converge.specs.Doubles.{finest, coarsest, bound, mag, usable, beyond}
 use Rattle.converge.specs.Value.{usable_record}
 use Rattle.converge.specs.Row.{usable_row, usable_records, rows_wrong, tolerance_wrong, limit_wrong, values_wrong, records_wrong, refusal_of}
 use Rattle.converge.specs.declared.History.{History}
-use Rattle.converge.proofs.Flags.{true_false, false_true, not_at_most}
+use Rattle.converge.proofs.Flags.{true_false, false_true}
+use Rattle.converge.proofs.Sizes.{not_le}
 use Rattle.converge.proofs.Says.{Says, Some, none_here, says_some, Line, line, First, first_line, first_one, says_eqb, says_ltb, says_no_flag, says_not, says_or, says_and, says_nand}
 
 -- ---- the table's words
@@ -60,10 +60,10 @@ Numbered n = (n ≡ 0) ⊎ ((30 ≤ n) × (n ≤ 34))
 -- ---- each test says them
 
 pub says_unfit : (v : Float) → Says (not (usable v)) (Unfit v)
-unfolding usable beyond mag le lt eq of_bits
+unfolding usable beyond is_nan mag le lt eq of_bits
 says_unfit (fin s m e) =
-    rw (not_at_most (m * up e * 1) (1000000000000 * down e))
-    (record { holds = λ h. inr h; fails = λ h. ⊎_elim (λ (g : true ≡ false). true_false g) (λ (g : ltb (1000000000000 * down e) (m * up e * 1) ≡ true). true_false (sym g ∙ h)) })
+    let n : not (le (fin false m e) bound) ≡ lt bound (fin false m e) = not_le (fin false m e) bound tt tt in
+    record { holds = λ h. inr (sym n ∙ h); fails = λ h. ⊎_elim true_false (λ g. true_false (sym g ∙ sym n ∙ h)) }
 says_unfit _ = record { holds = λ e. inl refl; fails = λ e. true_false e }
 
 says_row : (row : List Float) → Says (not (usable_row row)) (Some Unfit row)

@@ -11,11 +11,12 @@ use lib.Ieee.{Float, nan, binary64, of_bits, is_nan, sub, mul, div, eq}
 use lib.Ieee.Scale.{finite}
 use borrow.Author.Tests.{eqb-true, not-false}
 use Rattle.converge.specs.Doubles.{zero64, one64, mag, larger, usable, beyond}
-use Rattle.converge.specs.Answer.{Answer, strayed, moved, refused}
+use Rattle.converge.specs.Answer.{Answer, moved, refused}
 use Rattle.converge.specs.Value.{gap_of, rise, factor_of, next_of, usable_record}
 use Rattle.converge.specs.Row.{records_of, largest_of, all_close, nexts_of, stray_or, usable_row, usable_records, refusal_of, judged, verdict_of}
 use Rattle.converge.specs.declared.History.{History}
-use Rattle.converge.proofs.Flags.{true_false, and_left, and_right}
+use Rattle.std.proofs.lemmas.Bool.{and_parts}
+use Rattle.converge.proofs.Flags.{true_false, either}
 use Rattle.converge.proofs.Says.{Some, here, later, misses}
 use Rattle.converge.proofs.Refusals.{Unfit, says_unfit}
 use Rattle.converge.proofs.Accepted.{Accepted, accepted}
@@ -28,14 +29,14 @@ use Rattle.converge.proofs.Largest.{largest_is}
 usable_at : (row : List Float) (k : ℕ) → usable_row row ≡ true → k < length row → usable (get_or row k nan) ≡ true
 unfolding usable_row
 usable_at [] k u h = absurd (omega arith)
-usable_at (v ∷ row) zero u h = and_left (usable v) (usable_row row) u
-usable_at (v ∷ row) (suc k) u h = usable_at row k (and_right (usable v) (usable_row row) u) (omega arith)
+usable_at (v ∷ row) zero u h = (and_parts (usable v) (usable_row row) u).0
+usable_at (v ∷ row) (suc k) u h = usable_at row k (and_parts (usable v) (usable_row row) u).1 (omega arith)
 
 record_at_lem : (past : List History) (k : ℕ) (p : History) → usable_records past ≡ true → k < length past → usable_record (get_or past k p) ≡ true
 unfolding usable_records
 record_at_lem [] k p u h = absurd (omega arith)
-record_at_lem (q ∷ past) zero p u h = and_left (usable_record q) (usable_records past) u
-record_at_lem (q ∷ past) (suc k) p u h = record_at_lem past k p (and_right (usable_record q) (usable_records past) u) (omega arith)
+record_at_lem (q ∷ past) zero p u h = (and_parts (usable_record q) (usable_records past) u).0
+record_at_lem (q ∷ past) (suc k) p u h = record_at_lem past k p (and_parts (usable_record q) (usable_records past) u).1 (omega arith)
 
 -- |y − x|, tolerance × m, the two products and the next value are finite; so is d where the record counts, and dy / d is a number where d isn't zero
 pub record Sound (x y : Float) (past : History) (count method : ℕ) (tolerance : Float) : Type 0 where
@@ -67,18 +68,18 @@ accepted_sound x y past count method tolerance limit a k p h =
 
 -- ---- what is carried
 
-carried_cond : (b : Bool) (p q : Answer) → finite p.carried ≡ true → finite q.carried ≡ true → finite (cond b p q).carried ≡ true
-carried_cond true p q e f = e
-carried_cond false p q e f = f
+-- the double that an answer carries is finite
+abbrev Carries : Answer → Type 0
+Carries a = finite a.carried ≡ true
 
 stray_finite : (x y : List Float) (past : List History) (count method : ℕ) (a : Answer)
     → usable_row x ≡ true → usable_row y ≡ true → finite a.carried ≡ true
     → finite (stray_or (nexts_of x y past count method) a).carried ≡ true
 unfolding nexts_of stray_or usable_row
 stray_finite (v ∷ x) (w ∷ y) (p ∷ past) count method a ux uy e =
-    carried_cond (beyond (next_of v w p count method)) (strayed (next_of v w p count method)) _
-    (next_finite v w (and_left _ _ ux) (and_left _ _ uy) p count method)
-    (stray_finite x y past count method a (and_right (usable v) _ ux) (and_right (usable w) _ uy) e)
+    let u = and_parts (usable v) _ ux in
+    let t = and_parts (usable w) _ uy in
+    either Carries (beyond (next_of v w p count method)) (next_finite v w u.0 t.0 p count method) (stray_finite x y past count method a u.1 t.1 e)
 stray_finite _ _ _ count method a ux uy e = e
 
 -- The carried double is a finite number for all that can be handed in.
@@ -94,8 +95,8 @@ carried_finite x y past count method tolerance limit = go (refusal_of x y past c
         → finite (cond b (judged x y past count method tolerance limit) (refused r)).carried ≡ true
     go r z true e =
         let a = accepted x y past count method tolerance limit (z ∙ eqb-true r 0 e) in
-        carried_cond (all_close x y tolerance) _ _ (top a)
-        (carried_cond (eqb count limit) _ _ (top a) (stray_finite x y past count method (moved (largest_of x y)) a.usable_x a.usable_y (top a)))
+        either Carries (all_close x y tolerance) (top a)
+        (either Carries (eqb count limit) (top a) (stray_finite x y past count method (moved (largest_of x y)) a.usable_x a.usable_y (top a)))
     go r z false e = refl
 
 -- ---- what is left
@@ -111,16 +112,20 @@ nexts_usable : (x y : List Float) (past : List History) (count method : ℕ) →
     → (Some Beyond (nexts_of x y past count method) → ⊥) → usable_row (nexts_of x y past count method) ≡ true
 unfolding nexts_of usable_row
 nexts_usable (v ∷ x) (w ∷ y) (p ∷ past) count method ux uy n =
-    let f = fit_of (next_of v w p count method) (next_finite v w (and_left _ _ ux) (and_left _ _ uy) p count method) (λ b. n (here b)) in
-    let r = nexts_usable x y past count method (and_right (usable v) _ ux) (and_right (usable w) _ uy) (λ s. n (later s)) in
+    let u = and_parts (usable v) _ ux in
+    let t = and_parts (usable w) _ uy in
+    let f = fit_of (next_of v w p count method) (next_finite v w u.0 t.0 p count method) (λ b. n (here b)) in
+    let r = nexts_usable x y past count method u.1 t.1 (λ s. n (later s)) in
     rw (f, r)
 nexts_usable _ _ _ count method ux uy n = refl
 
 records_usable : (x y : List Float) → usable_row x ≡ true → usable_row y ≡ true → usable_records (records_of x y) ≡ true
 unfolding records_of usable_row usable_records usable_record
 records_usable (v ∷ x) (w ∷ y) ux uy =
-    let r = records_usable x y (and_right (usable v) _ ux) (and_right (usable w) _ uy) in
-    rw (and_left (usable v) _ ux, and_left (usable w) _ uy, r)
+    let u = and_parts (usable v) _ ux in
+    let t = and_parts (usable w) _ uy in
+    let r = records_usable x y u.1 t.1 in
+    rw (u.0, t.0, r)
 records_usable _ _ ux uy = refl
 
 -- After Moved the x row and the records are usable again: neither 33 by x nor 34 by a record can come of handing them on.

@@ -14,7 +14,7 @@ use Rattle.converge.specs.Answer.{Answer, strayed, moved, refused}
 use Rattle.converge.specs.Value.{close}
 use Rattle.converge.specs.Row.{largest_of, all_close, nexts_of, stray_or, refusal_of, judged, verdict_of}
 use Rattle.converge.specs.declared.History.{History}
-use Rattle.converge.proofs.Flags.{true_false, false_true}
+use Rattle.converge.proofs.Flags.{true_false, false_true, either}
 use Rattle.converge.proofs.Says.{Says, Some, here, later, none_here, neither, Line, line, First, first_one, first_line, passed_over, Inside, first_inside, says_eqb}
 use Rattle.converge.proofs.Refusals.{Numbered, table, refusal_exactly, refusal_range}
 use Rattle.converge.proofs.Accepted.{Accepted, accepted}
@@ -25,14 +25,14 @@ number_cond : (b : Bool) (p q : Answer) → (cond b p q).number ≡ cond b p.num
 number_cond true p q = refl
 number_cond false p q = refl
 
-refusal_cond : (b : Bool) (p q : Answer) → p.refusal ≡ 0 → q.refusal ≡ 0 → (cond b p q).refusal ≡ 0
-refusal_cond true p q e f = e
-refusal_cond false p q e f = f
+-- an answer with a verdict
+abbrev Judges : Answer → Type 0
+Judges a = a.refusal ≡ 0
 
 stray_refusal : (vs : List Float) (a : Answer) → a.refusal ≡ 0 → (stray_or vs a).refusal ≡ 0
 unfolding stray_or
 stray_refusal [] a e = e
-stray_refusal (v ∷ vs) a e = refusal_cond (beyond v) (strayed v) (stray_or vs a) refl (stray_refusal vs a e)
+stray_refusal (v ∷ vs) a e = either Judges (beyond v) refl (stray_refusal vs a e)
 
 -- Strayed where some next is beyond 1e12 in size
 abbrev pub Beyond : Float → Type 0
@@ -80,8 +80,8 @@ module _ (x y : List Float) (past : List History) (count method : ℕ) (toleranc
   judged_refusal : (judged x y past count method tolerance limit).refusal ≡ 0
   unfolding judged
   judged_refusal =
-      refusal_cond (all_close x y tolerance) _ _ refl
-      (refusal_cond (eqb count limit) _ _ refl (stray_refusal (nexts_of x y past count method) (moved (largest_of x y)) refl))
+      either Judges (all_close x y tolerance) refl
+      (either Judges (eqb count limit) refl (stray_refusal (nexts_of x y past count method) (moved (largest_of x y)) refl))
 
   judged-first : First (judgements x y past count method tolerance limit) 4 (judged x y past count method tolerance limit).number
   unfolding judged
