@@ -6,11 +6,12 @@ use mathlib.Core.List.{List}
 use mathlib.Core.Logic.{◌⊎◌, inl, inr, ⊎_elim}
 use mathlib.Core.Path.{◌≡◌, refl, sym, ap, ◌∙◌, subst}
 use Prim.Native.Nat.{ℕ, zero, suc, ◌≤◌, ◌<◌}
-use native.Mathlib.Decide.{dec_lt}
 use native.Mathlib.Omega.{arith}
-use borrow.Author.Tests.{lt-ltb, le-ltb, le-leb, lt-leb, eq-eqb, ne_eqb, eqb-true, eqb-false, leb-true, ltb-true}
+use borrow.Author.Tests.{lt-ltb, le-ltb, le-leb, lt-leb, eq-eqb, ne_eqb, eqb-true, leb-true, ltb-true}
 use lib.Dec.{eqb, leb, ltb}
 use lib.ListN.{length, get_or}
+use Rattle.std.proofs.Math.Bool.{and-false}
+use Rattle.std.proofs.lemmas.Bool.{and_parts, cases_eq, cases_lt}
 use Rattle.words.specs.Words.{number_at}
 use Rattle.flowsheet.specs.Exactly.{SpareZero, LaidOut, GoodHeader, HeaderRefusal, short, edition, spare, counts, layout, Numbered, Known, Sound, Fault, end, outside, weight, stream_in, stream_number_in, GoodStream, StreamRefusal, number, fault, Refusal, header, unit, stream, Accepted}
 use Rattle.flowsheet.specs.Image.{before, edition_of, spare_of, unit_count, stream_count, laid_out, header_number, unit_at, unit_number_at, units_number, stream_number, stream_number_at, unit_list, answer_of}
@@ -20,30 +21,11 @@ use Rattle.flowsheet.specs.declared.Stream.{Stream}
 use Rattle.flowsheet.proofs.First.{first_none, first_given, first-all, first_at, search_first}
 use Rattle.flowsheet.proofs.Places.{place_found, place_nowhere, place_cases}
 
--- two numbers are equal or not; a number is below another or not
-dec_eq : (a b : ℕ) → (a ≡ b) ⊎ (a ≡ b → ⊥)
-dec_eq a b = go (eqb a b) refl
-  where
-    go : (t : Bool) → eqb a b ≡ t → (a ≡ b) ⊎ (a ≡ b → ⊥)
-    go true e = inl (eqb-true a b e)
-    go false e = inr (eqb-false a b e)
-
-lt_or_le : (a b : ℕ) → (a < b) ⊎ (b ≤ a)
-lt_or_le a b = elim (dec_lt a b) [ yes l ↦ inl l | no f ↦ inr (omega arith) ]
-
-and_right : (t : Bool) → (t && false) ≡ false
-and_right true = refl
-and_right false = refl
-
-and_both : (a b : Bool) → (a && b) ≡ true → (a ≡ true) × (b ≡ true)
-and_both true b e = (refl, e)
-and_both false b e = absurd (let z : ◌≡◌ {A = ℕ} 0 1 = cc in omega arith)
-
 -- ---- the header
 
 pub spare_zero : (l : List ℕ) → spare_of l ≡ 0 → SpareZero l
 unfolding number_at
-spare_zero l e i h k = ⊎_elim (at 12 (omega arith)) (λ a. ⊎_elim (at 13 (omega arith)) (λ b. ⊎_elim (at 14 (omega arith)) (λ c. at 15 (omega arith) (omega arith)) (dec_eq i 14)) (dec_eq i 13)) (dec_eq i 12)
+spare_zero l e i h k = ⊎_elim (at 12 (omega arith)) (λ a. ⊎_elim (at 13 (omega arith)) (λ b. ⊎_elim (at 14 (omega arith)) (λ c. at 15 (omega arith) (omega arith)) (cases_eq i 14)) (cases_eq i 13)) (cases_eq i 12)
   where
     at : (j : ℕ) → get_or l j 0 ≡ 0 → i ≡ j → get_or l i 0 ≡ 0
     at j z p = ap (λ (x : ℕ). get_or l x 0) p ∙ z
@@ -62,9 +44,9 @@ module _ (l : List ℕ) where
   laid_of : laid_out l (unit_count l) (stream_count l) ≡ true → LaidOut l
   unfolding laid_out
   laid_of e =
-      let a = and_both _ _ e in
-      let b = and_both _ _ a.1 in
-      let c = and_both _ _ b.1 in
+      let a = and_parts _ _ e in
+      let b = and_parts _ _ a.1 in
+      let c = and_parts _ _ b.1 in
       record {
         units_at = eqb-true _ _ a.0;
         streams_at = eqb-true _ _ b.0;
@@ -91,12 +73,12 @@ module _ (l : List ℕ) where
   header_refusal_is (edition h f) = simp (le-ltb _ _ h, ne_eqb _ _ f)
   header_refusal_is (spare h e f) = simp (le-ltb _ _ h, eq-eqb _ _ e, ne_eqb (spare_of l) 0 (λ z. f (spare_zero l z)))
   header_refusal_is (counts h e s (inl u)) = simp (le-ltb _ _ h, eq-eqb _ _ e, eq-eqb _ _ (spare_is l s), lt-leb _ _ u)
-  header_refusal_is (counts h e s (inr u)) = simp (le-ltb _ _ h, eq-eqb _ _ e, eq-eqb _ _ (spare_is l s), lt-leb _ _ u, and_right)
+  header_refusal_is (counts h e s (inr u)) = simp (le-ltb _ _ h, eq-eqb _ _ e, eq-eqb _ _ (spare_is l s), lt-leb _ _ u, and-false)
   header_refusal_is (layout h e s u v f) =
       simp (le-ltb _ _ h, eq-eqb _ _ e, eq-eqb _ _ (spare_is l s), le-leb _ _ u, le-leb _ _ v, laid_not f)
 
   header_decided : GoodHeader l ⊎ ((n : ℕ) × HeaderRefusal l (suc n))
-  header_decided = ⊎_elim (λ h. inr (0, short h)) long (lt_or_le (length l) 16)
+  header_decided = ⊎_elim (λ h. inr (0, short h)) long (cases_lt (length l) 16)
     where
       laid : 16 ≤ length l → edition_of l ≡ 1 → spare_of l ≡ 0 → unit_count l ≤ 64 → stream_count l ≤ 256
           → (t : Bool) → laid_out l (unit_count l) (stream_count l) ≡ t → GoodHeader l ⊎ ((n : ℕ) × HeaderRefusal l (suc n))
@@ -113,15 +95,15 @@ module _ (l : List ℕ) where
           ⊎_elim
           (λ (v : 256 < stream_count l). inr (3, counts h e (spare_zero l s) (inr v)))
           (λ (v : stream_count l ≤ 256). laid h e s u v _ refl)
-          (lt_or_le 256 (stream_count l)))
-          (lt_or_le 64 (unit_count l))
+          (cases_lt 256 (stream_count l)))
+          (cases_lt 64 (unit_count l))
 
       long : 16 ≤ length l → GoodHeader l ⊎ ((n : ℕ) × HeaderRefusal l (suc n))
       long h =
           ⊎_elim
-          (λ e. ⊎_elim (λ s. counted h e s) (λ f. inr (2, spare h e (λ z. f (spare_is l z)))) (dec_eq (spare_of l) 0))
+          (λ e. ⊎_elim (λ s. counted h e s) (λ f. inr (2, spare h e (λ z. f (spare_is l z)))) (cases_eq (spare_of l) 0))
           (λ f. inr (1, edition h f))
-          (dec_eq (edition_of l) 1)
+          (cases_eq (edition_of l) 1)
 
   pub header_good : header_number l ≡ 0 → GoodHeader l
   header_good e =
@@ -152,9 +134,9 @@ module _ (f : ℕ → ℕ) where
       ⊎_elim
       (λ (c : before f i < f i). inl (numbered i a b c))
       (λ (h : f i ≤ before f i). inr (λ (g : Numbered f i). omega (arith, before_lt i g)))
-      (lt_or_le (before f i) (f i)))
-      (lt_or_le 9999 (f i)))
-      (lt_or_le (f i) 1)
+      (cases_lt (before f i) (f i)))
+      (cases_lt 9999 (f i)))
+      (cases_lt (f i) 1)
 
   numbered_not : (i k : ℕ) → (Numbered f i → ⊥) → number_fault (f i) (before f i) k ≡ k
   unfolding number_fault
@@ -163,8 +145,8 @@ module _ (f : ℕ → ℕ) where
       go : (t : Bool) → (leb 1 (f i) && (leb (f i) 9999 && ltb (before f i) (f i))) ≡ t
           → cond (leb 1 (f i) && (leb (f i) 9999 && ltb (before f i) (f i))) 0 k ≡ k
       go true e =
-          let a = and_both _ _ e in
-          let b = and_both _ _ a.1 in
+          let a = and_parts _ _ e in
+          let b = and_parts _ _ a.1 in
           absurd (n (numbered i (leb-true _ _ a.0) (leb-true _ _ b.0) (ltb-true _ _ b.1)))
       go false e = rw e
 
@@ -174,7 +156,7 @@ module _ (us : List ℕ) where
   known_is : (e : ℕ) → Known us e → known_end us e ≡ true
   unfolding known_end
   known_is e (inl z) = rw (eq-eqb e 0 z)
-  known_is e (inr k) = ⊎_elim (λ z. rw (eq-eqb e 0 z)) (λ f. rw (ne_eqb e 0 f) (⊎_elim here (λ n. absurd (place_nowhere us e n k.0 k.1 k.2)) (place_cases us e))) (dec_eq e 0)
+  known_is e (inr k) = ⊎_elim (λ z. rw (eq-eqb e 0 z)) (λ f. rw (ne_eqb e 0 f) (⊎_elim here (λ n. absurd (place_nowhere us e n k.0 k.1 k.2)) (place_cases us e))) (cases_eq e 0)
     where
       here : ((i : ℕ) × (place_of us e ≡ Some i)) → is_some (place_of us e) ≡ true
       here p = rw p.1
@@ -197,7 +179,7 @@ module _ (us : List ℕ) where
       (λ p. inl (inr (p.0, (place_found us e p.0 p.1).0, (place_found us e p.0 p.1).1)))
       (λ n. inr (λ k. ⊎_elim f (λ k. place_nowhere us e n k.0 k.1 k.2) k))
       (place_cases us e))
-      (dec_eq e 0)
+      (cases_eq e 0)
 
   module _ (s : Stream) where
     both_not : (s.source ≡ 0 → s.receiver ≡ 0 → ⊥) → (eqb s.source 0 && eqb s.receiver 0) ≡ false
@@ -205,7 +187,7 @@ module _ (us : List ℕ) where
         ⊎_elim
         (λ a. rw (eq-eqb s.source 0 a) (ne_eqb s.receiver 0 (f a)))
         (λ (n : s.source ≡ 0 → ⊥). rw (ne_eqb s.source 0 n))
-        (dec_eq s.source 0)
+        (cases_eq s.source 0)
 
     pub sound_is : Sound us s → stream_fault us s ≡ 0
     unfolding stream_fault weight_fault
@@ -223,7 +205,7 @@ module _ (us : List ℕ) where
     fault_is (weight a b f (inl h)) =
         simp (known_is s.source a, known_is s.receiver b, both_not f, lt-leb _ _ h)
     fault_is (weight a b f (inr h)) =
-        simp (known_is s.source a, known_is s.receiver b, both_not f, lt-leb _ _ h, and_right)
+        simp (known_is s.source a, known_is s.receiver b, both_not f, lt-leb _ _ h, and-false)
 
     dec_sound : Sound us s ⊎ ((n : ℕ) × Fault us s (suc n))
     dec_sound =
@@ -241,15 +223,15 @@ module _ (us : List ℕ) where
             ⊎_elim
             (λ (h : 1000 < s.weight). inr (9, weight a b f (inr h)))
             (λ (m : s.weight ≤ 1000). inl (record { source = a; receiver = b; inside = f; light = l; heavy = m }))
-            (lt_or_le 1000 s.weight))
-            (lt_or_le s.weight 1)
+            (cases_lt 1000 s.weight))
+            (cases_lt s.weight 1)
 
         ends : Known us s.source → Known us s.receiver → Sound us s ⊎ ((n : ℕ) × Fault us s (suc n))
         ends a b =
             ⊎_elim
-            (λ p. ⊎_elim (λ q. inr (8, outside p q)) (λ f. weighed a b (λ x y. f y)) (dec_eq s.receiver 0))
+            (λ p. ⊎_elim (λ q. inr (8, outside p q)) (λ f. weighed a b (λ x y. f y)) (cases_eq s.receiver 0))
             (λ f. weighed a b (λ x y. f x))
-            (dec_eq s.source 0)
+            (cases_eq s.source 0)
 
 -- ---- the records of an image, and the whole
 

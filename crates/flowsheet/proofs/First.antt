@@ -31,9 +31,6 @@ module _ (f : ℕ → ℕ) where
   pub first_step : (i n : ℕ) → i < n → first_from f i (n - i) ≡ first (f i) (first_from f (i + 1) (n - (i + 1)))
   first_step i n h = let e : n - i ≡ suc (n - (i + 1)) = omega arith in rw (e, add-one i)
 
-  pub first_end : (i n : ℕ) → n ≤ i → first_from f i (n - i) ≡ 0
-  first_end i n h = let e : n - i ≡ 0 = omega arith in rw e
-
   pub first-all : (i n : ℕ) → ((j : ℕ) → i ≤ j → j < i + n → f j ≡ 0) → first_from f i n ≡ 0
   first-all i zero h = refl
   first-all i (suc n) h = rw (h i (omega arith) (omega arith), first-all (suc i) n (λ j p q. h j (omega arith) (omega arith)))

@@ -1,25 +1,23 @@
 -- The bound on Moved, as the C program sees it: from count 0, with one limit kept and each count's bytes handed on, Moved comes at
 -- most as often as the limit says. The count in the bytes is tied to the answer in the bytes, and the rest is cited. Assumes nothing.
-use mathlib.Core.Bool.{Bool, true, false, cond}
-use mathlib.Core.List.{List, [], ◌∷◌}
+use mathlib.Core.Bool.{false, cond}
+use mathlib.Core.List.{List}
 use mathlib.Core.Logic.{◌⊎◌, inl, ◌↔◌}
 use mathlib.Core.Path.{◌≡◌, refl, sym, ◌∙◌, ap}
 use Prim.Native.Nat.{ℕ, ◌+◌, ◌<◌, ◌≤◌, ◌^◌}
 use native.Mathlib.Omega.{arith}
-use borrow.Author.Tests.{eqb-true, eqb-false}
+use borrow.Author.Tests.{ne_eqb}
 use lib.Dec.{eqb}
 use lib.Ieee.{Float, binary64, to_bits}
 use lib.ListN.{length, set}
 use lib.Seq.{get_or-set_same}
 use Rattle.converge.specs.Answer.{Answer}
-use Rattle.converge.specs.Row.{Stepped}
 use Rattle.words.specs.Words.{number_at}
 use Rattle.converge.proofs.Bound.{Tied, Calls, tied_exactly, at_most_limit, stepped_tied}
-use Rattle.converge.proofs.Lent.{stepped_answer}
 use Rattle.converge.proofs.Verdicts.{moved_accepted}
 use Rattle.words.proofs.Numbers.{read_back, read_elsewhere}
-use Rattle.najmudhil.specs.Step.{Lent, BytesStep, double_at, record_in, with_answer, lengths_wrong, held_step, bytes_stepped}
-use Rattle.najmudhil.proofs.Lent.{lengths_right, leaves-refused, leaves_kept, leaves-moved, bytes_wrong, bytes_right}
+use Rattle.najmudhil.specs.Step.{Lent, BytesStep, double_at, with_answer, bytes_stepped}
+use Rattle.najmudhil.proofs.Lent.{Handed, wrong, held, out, xs, ys, records, moves, held_answer, bytes_long, ways}
 
 -- The answer that stands in what is returned and in the answer's bytes; a refusal has no verdict.
 abbrev pub seen : ℕ → List ℕ → Answer
@@ -44,50 +42,26 @@ idle limit n a k = record { moves = λ e. absurd (k e); below = λ e. absurd (k 
 abbrev Ties : ℕ → List ℕ → Lent → Type 0
 Ties limit count l = Tied limit (number_at 2 count 0) (seen l.code l.answer) (number_at 2 l.count 0)
 
-module _ (x : List ℕ) (y : Float) (past count : List ℕ) (method : ℕ) (tolerance : Float) (limit : ℕ) (answer : List ℕ) where
-  -- whether a length is wrong, the step by value of what the bytes hold, and what stands after the step over bytes
-  abbrev wrong : Bool
-  wrong = lengths_wrong (length x) (length past) (length count) (length answer)
+bytes_tied : (h : Handed) → Ties h.limit h.count (out h)
+bytes_tied h =
+    ways h (Ties h.limit h.count) (λ w. idle h.limit (moves h) _ no_move) (λ w k. idle h.limit (moves h) _ (rw (ne_eqb _ _ k) no_move))
+    (λ w z k. idle h.limit (moves h) _ (λ e. k (sym (number w) ∙ e)))
+    (λ w z k.
+    let g = read_back 2 h.count 0 (held h).count (omega (arith, (bytes_long h w).2)) (room k) in
+    record { moves = λ e. g ∙ t.moves k; below = λ e. t.below k; stays = λ e. absurd (e (number w ∙ k)) })
+  where
+    t : Tied h.limit (moves h) (held h).answer (held h).count
+    t = stepped_tied (xs h) (ys h) (records h) (moves h) h.method h.tolerance h.limit
 
-  abbrev held : Stepped
-  held = held_step x y past count method tolerance limit
+    number : wrong h ≡ false → number_at 1 (with_answer h.answer (held h).answer) 0 ≡ (held h).answer.number
+    number w = answer_number h.answer (held h).answer (omega (arith, (bytes_long h w).3))
 
-  abbrev out : Lent
-  out = bytes_stepped x y past count method tolerance limit answer
-
-  bytes_tied : Ties limit count out
-  bytes_tied = go wrong refl
-    where
-      t : Tied limit (number_at 2 count 0) held.answer held.count
-      t = stepped_tied (double_at x 0 ∷ []) (y ∷ []) (record_in past ∷ []) (number_at 2 count 0) method tolerance limit
-
-      -- the count after Moved has room in its two bytes
-      room : held.answer.number ≡ 4 → held.count < 256 ^ 2
-      room k =
-          let e = ap (λ (a : Answer). a.number) (stepped_answer (double_at x 0 ∷ []) (y ∷ []) (record_in past ∷ []) (number_at 2 count 0) method tolerance limit) in
-          let m = moved_accepted (double_at x 0 ∷ []) (y ∷ []) (record_in past ∷ []) (number_at 2 count 0) method tolerance limit (sym e ∙ k) in
-          let most = m.0.most in
-          omega (arith, t.moves k, m.1, most)
-
-      fitting : wrong ≡ false → (b c : Bool) → eqb held.answer.refusal 0 ≡ b → eqb held.answer.number 4 ≡ c → Ties limit count out
-      fitting w false c e f =
-          let r = bytes_right x y past count method tolerance limit answer w ∙ leaves-refused _ x past count answer (eqb-false _ _ e) in
-          rw r (idle limit (number_at 2 count 0) _ (rw e no_move))
-      fitting w true false e f =
-          let l = lengths_right (length x) (length past) (length count) (length answer) w in
-          let r = bytes_right x y past count method tolerance limit answer w ∙ leaves_kept _ x past count answer (eqb-true _ _ e) (eqb-false _ _ f) in
-          let g = answer_number answer held.answer (omega (arith, l.3)) in
-          rw r (idle limit (number_at 2 count 0) _ (λ k. eqb-false _ _ f (sym g ∙ k)))
-      fitting w true true e f =
-          let l = lengths_right (length x) (length past) (length count) (length answer) w in
-          let k = eqb-true _ _ f in
-          let r = bytes_right x y past count method tolerance limit answer w ∙ leaves-moved _ x past count answer (eqb-true _ _ e) k in
-          let g = read_back 2 count 0 held.count (omega (arith, l.2)) (room k) in
-          rw r (record { moves = λ z. g ∙ t.moves k; below = λ z. t.below k; stays = λ z. absurd (z (answer_number answer held.answer (omega (arith, l.3)) ∙ k)) })
-
-      go : (b : Bool) → wrong ≡ b → Ties limit count out
-      go true w = rw (bytes_wrong x y past count method tolerance limit answer w) (idle limit (number_at 2 count 0) _ no_move)
-      go false w = fitting w _ _ refl refl
+    -- the count after Moved has room in its two bytes
+    room : (held h).answer.number ≡ 4 → (held h).count < 256 ^ 2
+    room k =
+        let m = moved_accepted (xs h) (ys h) (records h) (moves h) h.method h.tolerance h.limit (sym (ap (λ (a : Answer). a.number) (held_answer h)) ∙ k) in
+        let most = m.0.most in
+        omega (arith, t.moves k, m.1, most)
 
 -- A call of the exported step with any bytes, y, method and tolerance, whose count's bytes hold n at entry and m at exit, and which is seen to answer a.
 pub record BytesCall (limit n : ℕ) (a : Answer) (m : ℕ) : Type 0 where
@@ -111,7 +85,7 @@ pub record BytesCall (limit n : ℕ) (a : Answer) (m : ℕ) : Type 0 where
 pub bytes_call_tied : (limit n : ℕ) (a : Answer) (m : ℕ) → BytesCall limit n a m → Tied limit n a m
 bytes_call_tied limit n a m c =
     let p = c.promised in
-    let t = bytes_tied c.x c.y c.past c.count c.method c.tolerance limit c.answer in
+    let t = bytes_tied (record { x = c.x; y = c.y; past = c.past; count = c.count; method = c.method; tolerance = c.tolerance; limit = limit; answer = c.answer }) in
     let u : Tied limit (number_at 2 c.count 0) (seen c.code c.answer') (number_at 2 c.count' 0) = rw (p.code, p.answer, p.count) t in
     rw (← c.entered, ← c.answered, ← c.left) u
 

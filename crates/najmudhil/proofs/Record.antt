@@ -1,40 +1,34 @@
 -- On Moved the record holds the 8 bytes of x as they stood, and then those of y: an accepted x is a number, and the pattern of the
 -- double that a number's bytes hold is these bytes. Assumes nothing.
-use mathlib.Core.Bool.{Bool, false, not}
+use mathlib.Core.Bool.{false, not}
 use mathlib.Core.List.{List, [], ◌∷◌, ◌++◌, map, append-nil}
 use mathlib.Core.Logic.{◌⊎◌, inl, inr}
 use mathlib.Core.Path.{◌≡◌, refl, sym, ◌∙◌, ap}
 use Prim.Native.Nat.{ℕ, ◌+◌, ◌≤◌}
 use native.Mathlib.Omega.{arith}
 use lib.Dec.{T}
-use lib.Ieee.{Float, nan, binary64, to_bits, is_nan}
+use lib.Ieee.{Float, binary64, to_bits, is_nan}
 use lib.Ieee.Bits.{to_bits-of_bits}
-use lib.Ieee.Scale.{finite}
 use lib.ListN.{length, length-append, drop_of_length-le}
 use lib.Seq.{sets, sets-eq, take_all}
+use Rattle.std.proofs.lemmas.Bool.{true_from_ne_false}
 use Rattle.converge.specs.Answer.{Answer}
 use Rattle.converge.specs.Row.{Stepped, records_of, verdict_of}
 use Rattle.converge.specs.declared.History.{History}
 use Rattle.words.specs.Words.{number_at, bytes_of, with_number}
-use Rattle.converge.proofs.Lent.{stepped_answer, stepped-moved}
+use Rattle.converge.proofs.Lent.{stepped-moved}
 use Rattle.converge.proofs.Rows.{records_x, records_y}
+use Rattle.converge.proofs.Sizes.{finite_number}
 use Rattle.converge.proofs.Verdicts.{one_verdict}
 use Rattle.words.proofs.Numbers.{Bytes, number_lt, length_bytes, bytes_of_number, sets-append}
-use Rattle.najmudhil.specs.Step.{Lent, double_at, record_in, values_of, with_doubles, lengths_wrong, held_step, bytes_stepped}
+use Rattle.najmudhil.specs.Step.{Lent, double_at, values_of, with_doubles}
 use Rattle.najmudhil.proofs.Codes.{accepted_fit}
-use Rattle.najmudhil.proofs.Lent.{lengths_right, leaves-moved, bytes_right}
-
--- what is finite is a number
-finite_number : (v : Float) → (finite v ≡ false → ⊥) → T (not (is_nan v))
-unfolding is_nan
-finite_number nan f = absurd (f refl)
-finite_number _ f = tt
+use Rattle.najmudhil.proofs.Lent.{Handed, wrong, held, out, xs, ys, records, moves, held_answer, bytes_long, bytes_moved}
 
 -- the record of one x and one y, x first
 one_record : (ps : List History) (x y : Float) → map (λ (p : History). p.x) ps ≡ x ∷ [] → map (λ (p : History). p.y) ps ≡ y ∷ [] → values_of ps ≡ x ∷ y ∷ []
-one_record [] x y e f = let z : ◌≡◌ {A = ℕ} 0 1 = cc in absurd (omega arith)
 one_record (p ∷ []) x y e f = cc
-one_record (p ∷ q ∷ ps) x y e f = let z : ◌≡◌ {A = ℕ} 0 1 = cc in absurd (omega arith)
+one_record _ x y e f = let z : ◌≡◌ {A = ℕ} 0 1 = cc in absurd (omega arith)
 
 -- two numbers of 8 bytes written over 16 bytes are their bytes
 two_numbers : (l : List ℕ) (v w : ℕ) → length l ≡ 16 → with_number 8 (with_number 8 l 0 v) 8 w ≡ bytes_of 8 v ++ bytes_of 8 w
@@ -61,34 +55,19 @@ no_refusal : (r k : ℕ) → k ≡ 4 → ((r ≡ 0) × (1 ≤ k) × (k ≤ 4)) �
 no_refusal r k e (inl h) = h.0
 no_refusal r k e (inr h) = absurd (omega (arith, h.2))
 
-module _ (x : List ℕ) (y : Float) (past count : List ℕ) (method : ℕ) (tolerance : Float) (limit : ℕ) (answer : List ℕ) where
-  -- whether a length is wrong, the step by value of what the bytes hold, and what stands after the step over bytes
-  abbrev wrong : Bool
-  wrong = lengths_wrong (length x) (length past) (length count) (length answer)
-
-  abbrev held : Stepped
-  held = held_step x y past count method tolerance limit
-
-  abbrev out : Lent
-  out = bytes_stepped x y past count method tolerance limit answer
-
-  pub moved_record : Bytes x → wrong ≡ false → held.answer.number ≡ 4 → out.past ≡ x ++ bytes_of 8 (to_bits binary64 y)
-  moved_record b w k =
-      let l = lengths_right (length x) (length past) (length count) (length answer) w in
-      let xs : List Float = double_at x 0 ∷ [] in
-      let ys : List Float = y ∷ [] in
-      let ps : List History = record_in past ∷ [] in
-      let a = stepped_answer xs ys ps (number_at 2 count 0) method tolerance limit in
-      let e : (verdict_of xs ys ps (number_at 2 count 0) method tolerance limit).number ≡ 4 = sym (ap (λ (v : Answer). v.number) a) ∙ k in
-      let z : held.answer.refusal ≡ 0 =
-      ap (λ (v : Answer). v.refusal) a ∙ no_refusal _ _ e (one_verdict xs ys ps (number_at 2 count 0) method tolerance limit) in
-      let f : T (not (is_nan (double_at x 0))) =
-      finite_number (double_at x 0) (λ h. accepted_fit x y past count method tolerance limit answer z (inl h)) in
-      let q : to_bits binary64 (double_at x 0) ≡ number_at 8 x 0 = pattern_back x b f in
-      let v : values_of held.past ≡ double_at x 0 ∷ y ∷ [] =
-      ap (λ (s : Stepped). values_of s.past) (stepped-moved xs ys ps (number_at 2 count 0) method tolerance limit e)
-      ∙ one_record (records_of xs ys) (double_at x 0) y (records_x xs ys refl) (records_y xs ys refl) in
-      ap (λ (r : Lent). r.past) (bytes_right x y past count method tolerance limit answer w ∙ leaves-moved _ x past count answer z k)
-      ∙ ap (with_doubles past 0) v
-      ∙ two_numbers past (to_bits binary64 (double_at x 0)) (to_bits binary64 y) l.1
-      ∙ rw (q, bytes_back x b l.0)
+pub moved_record : (h : Handed) → Bytes h.x → wrong h ≡ false → (held h).answer.number ≡ 4 → (out h).past ≡ h.x ++ bytes_of 8 (to_bits binary64 h.y)
+moved_record h b w k =
+    let l = bytes_long h w in
+    let e : (verdict_of (xs h) (ys h) (records h) (moves h) h.method h.tolerance h.limit).number ≡ 4 = sym (ap (λ (v : Answer). v.number) (held_answer h)) ∙ k in
+    let z : (held h).answer.refusal ≡ 0 =
+    ap (λ (v : Answer). v.refusal) (held_answer h)
+    ∙ no_refusal _ _ e (one_verdict (xs h) (ys h) (records h) (moves h) h.method h.tolerance h.limit) in
+    let f : T (not (is_nan (double_at h.x 0))) = finite_number (double_at h.x 0) (true_from_ne_false _ (λ u. accepted_fit h z (inl u))) in
+    let q : to_bits binary64 (double_at h.x 0) ≡ number_at 8 h.x 0 = pattern_back h.x b f in
+    let v : values_of (held h).past ≡ double_at h.x 0 ∷ h.y ∷ [] =
+    ap (λ (s : Stepped). values_of s.past) (stepped-moved (xs h) (ys h) (records h) (moves h) h.method h.tolerance h.limit e)
+    ∙ one_record (records_of (xs h) (ys h)) (double_at h.x 0) h.y (records_x (xs h) (ys h) refl) (records_y (xs h) (ys h) refl) in
+    ap (λ (r : Lent). r.past) (bytes_moved h w z k)
+    ∙ ap (with_doubles h.past 0) v
+    ∙ two_numbers h.past (to_bits binary64 (double_at h.x 0)) (to_bits binary64 h.y) l.1
+    ∙ rw (q, bytes_back h.x b l.0)

@@ -1,20 +1,10 @@
 -- The front of a row cleared, a byte at a time; what lies beyond it is all that counts of the row before. Assumes nothing.
 use mathlib.Core.List.{List, ◌++◌}
-use mathlib.Core.Path.{◌≡◌, sym, ap, ◌∙◌}
-use Prim.Native.Nat.{ℕ, ◌+◌, ◌-◌, ◌≤◌, ◌<◌}
+use mathlib.Core.Path.{◌≡◌, ap}
+use Prim.Native.Nat.{ℕ, ◌≤◌}
 use native.Mathlib.Omega.{arith}
-use borrow.Author.Fill.{fill_none, fill_more}
-use lib.ListN.{length, set, drop, replicate, length-append, length-replicate, length-drop}
-use lib.Seq.{drop-append-add, drop-drop}
+use lib.ListN.{length, drop, replicate, length-append, length-replicate, length-drop}
 use Rattle.words.specs.Words.{cleared}
-
-pub cleared_none : (l : List ℕ) → l ≡ cleared l 0
-unfolding cleared
-cleared_none l = fill_none l 0
-
-pub cleared_more : (l : List ℕ) (i : ℕ) → i < length l → set (cleared l i) i 0 ≡ cleared l (i + 1)
-unfolding cleared
-cleared_more l i h = fill_more i 0 l h
 
 -- only what lies beyond the cleared part counts
 pub cleared_same : (l m : List ℕ) (n : ℕ) → drop n l ≡ drop n m → cleared l n ≡ cleared m n
@@ -24,17 +14,3 @@ cleared_same l m n e = ap (λ (d : List ℕ). replicate n 0 ++ d) e
 pub length-cleared : (l : List ℕ) (n : ℕ) → n ≤ length l → length (cleared l n) ≡ length l
 unfolding cleared
 length-cleared l n h = rw (length-append, length-replicate, length-drop) (omega arith)
-
-pub drop-cleared : (l : List ℕ) (n k : ℕ) → n ≤ k → drop k (cleared l n) ≡ drop k l
-unfolding cleared
-drop-cleared l n k h =
-    let e : length (replicate {A = ℕ} n 0) + (k - n) ≡ k = rw length-replicate (omega arith) in
-    let f : n + (k - n) ≡ k = omega arith in
-    ap (λ (j : ℕ). drop j (replicate n 0 ++ drop n l)) (sym e)
-    ∙ drop-append-add (replicate n 0) (drop n l) (k - n)
-    ∙ drop-drop (k - n) n l
-    ∙ ap (λ (j : ℕ). drop j l) f
-
--- a longer clearing makes a shorter one before it good
-pub cleared_twice : (l : List ℕ) (n k : ℕ) → n ≤ k → cleared (cleared l n) k ≡ cleared l k
-cleared_twice l n k h = cleared_same (cleared l n) l k (drop-cleared l n k h)

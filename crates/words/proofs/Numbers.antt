@@ -1,15 +1,15 @@
 -- Little-endian numbers, once for every width. A number of a + b bytes is the number of its first a bytes and, 256 ^ a
 -- times, that of the others; so the wider functions follow from the narrower. Assumes nothing.
-use mathlib.Core.List.{List, [], ◌∷◌, ◌++◌, append_assoc}
+use mathlib.Core.List.{List, [], ◌∷◌, ◌++◌}
 use mathlib.Core.Logic.{◌⊎◌, inl, inr}
 use mathlib.Core.Path.{◌≡◌, refl, sym, ap, ◌∙◌}
 use Prim.Native.Nat.{ℕ, zero, suc, ◌+◌, ◌*◌, ◌/◌, ◌%◌, ◌^◌, ◌≤◌, ◌<◌}
-use native.Mathlib.Nat.{zero-add, suc-add, add-zero, mul_assoc, pow-suc, pow-succ', div-one, div-div-eq-div-mul}
+use native.Mathlib.Nat.{zero-add, suc-add, add-zero, mul_assoc, pow-suc, pow-succ', div-one, div-div-eq-div-mul, mod-eq_of_lt}
 use native.Mathlib.Numerals.{add-one}
 use native.Mathlib.Omega.{arith}
 use lib.Arith.{mod-mul, digits_div, digits_mod}
-use lib.ListN.{length, get_or, set, take, drop, length-set, length-append}
-use lib.Seq.{sets, length-sets, get_or-set_same, get_or-set_other, drop-set-lt, drop-cons, get_or-append_seam}
+use lib.ListN.{length, get_or, set, take, drop, length-set}
+use lib.Seq.{sets, get_or-set_same, get_or-set_other, drop-set-lt, drop-cons}
 use Rattle.words.specs.Words.{number_at, bytes_of, with_number}
 
 -- every element of the row is a byte
@@ -41,6 +41,12 @@ number_join (suc a) b l i =
     let e : i + suc a ≡ i + 1 + a = omega arith in
     rw (suc-add a b, number_join a b l (i + 1), pow-succ' 256 a, e, mul_assoc 256 (256 ^ a) (number_at b l (i + 1 + a))) (omega arith)
 
+pub number_four : (l : List ℕ) (i : ℕ) → number_at 4 l i ≡ number_at 2 l i + 65536 * number_at 2 l (i + 2)
+number_four = number_join 2 2
+
+pub number_eight : (l : List ℕ) (i : ℕ) → number_at 8 l i ≡ number_at 4 l i + 4294967296 * number_at 4 l (i + 4)
+number_eight = number_join 4 4
+
 -- the bytes of a number of a + b bytes, in two parts
 pub bytes_join : (a b v : ℕ) → bytes_of (a + b) v ≡ bytes_of a v ++ bytes_of b (v / 256 ^ a)
 unfolding bytes_of
@@ -71,9 +77,23 @@ unfolding with_number
 with_join a b l i v =
     rw (bytes_low a v, bytes_low b (v / 256 ^ a), bytes_join a b v, ← sets-append l i (bytes_of a v) (bytes_of b (v / 256 ^ a)), length_bytes a v)
 
-pub length_with : (k : ℕ) (l : List ℕ) (i v : ℕ) → length (with_number k l i v) ≡ length l
-unfolding with_number
-length_with k l i v = length-sets l i (bytes_of k v)
+-- a number of two bytes, and of two halves, as they are written one after the other
+pub with_two : (l : List ℕ) (i v : ℕ) → v < 65536 → set (set l i (v % 256)) (i + 1) (v / 256) ≡ with_number 2 l i v
+unfolding with_number bytes_of
+with_two l i v h = let high : v / 256 % 256 ≡ v / 256 = omega (arith, h) in rw (high, add-one i)
+
+with_halves : (a : ℕ) (l : List ℕ) (i v : ℕ) → v / 256 ^ a < 256 ^ a
+    → with_number a (with_number a l i (v % 256 ^ a)) (i + a) (v / 256 ^ a) ≡ with_number (a + a) l i v
+with_halves a l i v h =
+    ap (with_number a (with_number a l i (v % 256 ^ a)) (i + a)) (sym (mod-eq_of_lt h)) ∙ with_join a a l i v
+
+pub with_four : (l : List ℕ) (i v : ℕ) → v < 4294967296
+    → with_number 2 (with_number 2 l i (v % 65536)) (i + 2) (v / 65536) ≡ with_number 4 l i v
+with_four l i v h = with_halves 2 l i v (omega arith)
+
+pub with_eight : (l : List ℕ) (i v : ℕ) → v < 18446744073709551616
+    → with_number 4 (with_number 4 l i (v % 4294967296)) (i + 4) (v / 4294967296) ≡ with_number 8 l i v
+with_eight l i v h = with_halves 4 l i v (omega arith)
 
 sets-before : (l : List ℕ) (i : ℕ) (vs : List ℕ) (j : ℕ) → j < i → get_or (sets l i vs) j 0 ≡ get_or l j 0
 sets-before l i [] j h = refl
@@ -116,15 +136,3 @@ bytes_of_number (suc k) l i b h =
     let q : (get_or l i 0 + 256 * number_at k l (i + 1)) % 256 ≡ get_or l i 0 = omega (arith, b i) in
     let d : (get_or l i 0 + 256 * number_at k l (i + 1)) / 256 ≡ number_at k l (i + 1) = omega (arith, b i) in
     rw (q, d, bytes_of_number k l (i + 1) b (omega arith), drop-cons l i 0 (omega arith), add-one i)
-
--- the number that the bytes of v hold is v, wherever they stand in a row
-pub number_of_bytes : (k v : ℕ) (before after : List ℕ) → v < 256 ^ k → number_at k (before ++ (bytes_of k v ++ after)) (length before) ≡ v
-unfolding bytes_of number_at
-number_of_bytes zero v before after h = omega arith
-number_of_bytes (suc k) v before after h =
-    let e : before ++ (v % 256 ∷ (bytes_of k (v / 256) ++ after)) ≡ (before ++ (v % 256 ∷ [])) ++ (bytes_of k (v / 256) ++ after) =
-    sym (append_assoc before (v % 256 ∷ []) (bytes_of k (v / 256) ++ after)) in
-    let n : length (before ++ (v % 256 ∷ [])) ≡ length before + 1 = length-append before (v % 256 ∷ []) in
-    let r : number_at k (before ++ (v % 256 ∷ (bytes_of k (v / 256) ++ after))) (length before + 1) ≡ v / 256 =
-    rw (e, ← n) (number_of_bytes k (v / 256) (before ++ (v % 256 ∷ [])) after (omega (arith, pow-succ' 256 k))) in
-    rw (get_or-append_seam before (v % 256) (bytes_of k (v / 256) ++ after) 0, r) (omega arith)

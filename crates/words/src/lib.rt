@@ -28,10 +28,12 @@ impl Word for u16 {
 
     ghost number = { λ n. n };
 
+    #[tactic(auto, unfolding(crate::specs::Words::number_at))]
     fn at(row: &[u8], at: usize) -> u16 {
         u16::from(row[at]) + 256 * u16::from(row[at + 1])
     }
 
+    #[tactic(auto, using(crate::proofs::Numbers::with_two))]
     fn put(self, row: &mut [u8], at: usize) {
         row[at] = (self % 256) as u8;
         row[at + 1] = (self / 256) as u8;
@@ -43,10 +45,12 @@ impl Word for u32 {
 
     ghost number = { λ n. n };
 
+    #[tactic(auto, using(crate::proofs::Numbers::number_four))]
     fn at(row: &[u8], at: usize) -> u32 {
         u32::from(u16::at(row, at)) + 65536 * u32::from(u16::at(row, at + 2))
     }
 
+    #[tactic(auto, using(crate::proofs::Numbers::with_four))]
     fn put(self, row: &mut [u8], at: usize) {
         let low = (self % 65536) as u16;
         let high = (self / 65536) as u16;
@@ -60,10 +64,12 @@ impl Word for u64 {
 
     ghost number = { λ n. n };
 
+    #[tactic(auto, using(crate::proofs::Numbers::number_eight))]
     fn at(row: &[u8], at: usize) -> u64 {
         u64::from(u32::at(row, at)) + 4294967296 * u64::from(u32::at(row, at + 4))
     }
 
+    #[tactic(auto, using(crate::proofs::Numbers::with_eight))]
     fn put(self, row: &mut [u8], at: usize) {
         let low = (self % 4294967296) as u32;
         let high = (self / 4294967296) as u32;

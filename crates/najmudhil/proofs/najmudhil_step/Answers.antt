@@ -6,42 +6,35 @@ use Rattle.najmudhil.proofs.najmudhil_step.Goals as goal
 
 pub returns-then-lengths_wrong : goal.returns-then-lengths_wrong
 returns-then-lengths_wrong c =
-    let a = c.args in
-    rw c.from.ensures
-    (out_short a.x.now a.y a.past.now a.count.now a.method a.tolerance a.limit a.answer.now (sym c.lengths_wrong.ensures ∙ c.if-lengths_wrong.true))
+    rw c.from.ensures (out_short _ (sym c.lengths_wrong.ensures ∙ c.if-lengths_wrong.true))
 
 pub returns-in-Refused : goal.returns-in-Refused
 returns-in-Refused c =
-    let a = c.args in
     rw c.from-in-Refused.ensures
-    (out_refused a.x.now a.y a.past.now a.count.now a.method a.tolerance a.limit a.answer.now (sym c.lengths_wrong.ensures ∙ c.if-lengths_wrong.false)
+    (out_refused _ (sym c.lengths_wrong.ensures ∙ c.if-lengths_wrong.false)
     _ c.held_step-step.ensures _ c.in-Refused.is)
 
 pub returns-in-Settled : goal.returns-in-Settled
 returns-in-Settled c =
-    let a = c.args in
     rw c.put_answer.ensures
-    (out_kept a.x.now a.y a.past.now a.count.now a.method a.tolerance a.limit a.answer.now (sym c.lengths_wrong.ensures ∙ c.if-lengths_wrong.false)
+    (out_kept _ (sym c.lengths_wrong.ensures ∙ c.if-lengths_wrong.false)
     _ c.held_step-step.ensures 1 _ (λ e. omega (arith, e)) (ap answer_of c.in-Settled.is))
 
 pub returns-in-Spent : goal.returns-in-Spent
 returns-in-Spent c =
-    let a = c.args in
     rw c.put_answer-in-Spent.ensures
-    (out_kept a.x.now a.y a.past.now a.count.now a.method a.tolerance a.limit a.answer.now (sym c.lengths_wrong.ensures ∙ c.if-lengths_wrong.false)
+    (out_kept _ (sym c.lengths_wrong.ensures ∙ c.if-lengths_wrong.false)
     _ c.held_step-step.ensures 2 _ (λ e. omega (arith, e)) (ap answer_of c.in-Spent.is))
 
 pub returns-in-Strayed : goal.returns-in-Strayed
 returns-in-Strayed c =
-    let a = c.args in
     rw c.put_answer-in-Strayed.ensures
-    (out_kept a.x.now a.y a.past.now a.count.now a.method a.tolerance a.limit a.answer.now (sym c.lengths_wrong.ensures ∙ c.if-lengths_wrong.false)
+    (out_kept _ (sym c.lengths_wrong.ensures ∙ c.if-lengths_wrong.false)
     _ c.held_step-step.ensures 3 _ (λ e. omega (arith, e)) (ap answer_of c.in-Strayed.is))
 
 pub returns-in-Moved : goal.returns-in-Moved
 returns-in-Moved c =
-    let a = c.args in
     let e = c.put_moved.ensures in
     rw (c.put_answer-in-Moved.ensures, e.x, e.past, e.count)
-    (out_moved a.x.now a.y a.past.now a.count.now a.method a.tolerance a.limit a.answer.now (sym c.lengths_wrong.ensures ∙ c.if-lengths_wrong.false)
+    (out_moved _ (sym c.lengths_wrong.ensures ∙ c.if-lengths_wrong.false)
     _ c.held_step-step.ensures _ c.in-Moved.is)
