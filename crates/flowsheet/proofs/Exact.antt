@@ -233,6 +233,9 @@ module _ (us : List ℕ) where
             (λ f. weighed a b (λ x y. f x))
             (cases_eq s.source 0)
 
+    pub sound_of : stream_fault us s ≡ 0 → Sound us s
+    sound_of e = ⊎_elim (λ g. g) (λ r. absurd (omega (arith, e, fault_is r.1))) dec_sound
+
 -- ---- the records of an image, and the whole
 
 module _ (l : List ℕ) where

@@ -1,6 +1,7 @@
 -- What each public function answers is settled: two results that its statement allows are equal. Assumes nothing.
-use Rattle.std.proofs.Common.{◌≡◌, ℕ, ◌∷◌, List, [], Option, Result, get_or, refl, sym, ap, ◌∙◌}
+use Rattle.std.proofs.Common.{Bool, ◌≡◌, ℕ, ◌∷◌, List, [], Option, Result, get_or, refl, sym, ap, ◌∙◌}
 use Rattle.flowsheet.specs.Answers.{number_of, fault_of, reading}
+use Rattle.flowsheet.specs.Good.{is_good}
 use Rattle.flowsheet.specs.Image.{refused_with, reading_of}
 use Rattle.flowsheet.specs.Sheet.{sheet_of, place_of, ends_of, weight_fault, stream_fault}
 use Rattle.flowsheet.specs.declared.Flowsheet.{Flowsheet}
@@ -53,3 +54,6 @@ weight_fault_lem w r s p q = one_fault r s (p ∙ sym q)
 
 pub stream_fault_lem : (us : List ℕ) (t : Stream) (r s : Result (Unit {0}) Refusal) → fault_of r ≡ stream_fault us t → fault_of s ≡ stream_fault us t → r ≡ s
 stream_fault_lem us t r s p q = one_fault r s (p ∙ sym q)
+
+pub is_good_lem : (us : List ℕ) (ss : List Stream) (r s : Bool) → r ≡ is_good us ss → s ≡ is_good us ss → r ≡ s
+is_good_lem us ss r s p q = p ∙ sym q

@@ -1,7 +1,7 @@
--- A flowsheet that could have been read: what the crates above count on.
-use Rattle.std.specs.Prelude.{List, ℕ, ◌≤◌, ◌<◌, length, get_or}
+-- A flowsheet that could have been read, which is what the crates above count on, and the test of it.
+use Rattle.std.specs.Prelude.{Bool, true, ◌&&◌, List, [], ◌∷◌, ℕ, ◌≤◌, ◌<◌, eqb, length, get_or}
 use Rattle.flowsheet.specs.Exactly.{Numbered, Sound}
-use Rattle.flowsheet.specs.Sheet.{no_stream}
+use Rattle.flowsheet.specs.Sheet.{no_stream, in_turn, stream_fault}
 use Rattle.flowsheet.specs.declared.Flowsheet.{Flowsheet}
 use Rattle.flowsheet.specs.declared.Stream.{Stream}
 
@@ -16,3 +16,16 @@ pub record Good (us : List ℕ) (ss : List Stream) : Type 0 where
 -- a flowsheet by value that could have been read
 abbrev pub GoodSheet : Flowsheet → Type 0
 GoodSheet f = Good f.units f.streams
+
+-- ---- the test of it
+
+-- the records of a table from one on, `last` the number before it: each number is in turn after the one before, and nothing else is wrong
+abbrev pub rows_good : {A : Type 0} → (A → ℕ) → (A → ℕ) → ℕ → List A → Bool
+rows_good number fault last [] = true
+rows_good number fault last (x ∷ xs) =
+    in_turn (number x) last && (eqb (fault x) 0 && rows_good number fault (number x) xs)
+
+-- the unit table, then the stream table
+unfoldable pub is_good : List ℕ → List Stream → Bool
+is_good us ss =
+    rows_good (λ (u : ℕ). u) (λ (u : ℕ). 0) 0 us && rows_good (λ (s : Stream). s.number) (stream_fault us) 0 ss

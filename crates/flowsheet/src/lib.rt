@@ -1,10 +1,11 @@
 // A flowsheet as a value, and reading its image: the flowsheet, or exactly one of the refusals 1 to 10.
 #![tactic(auto)]
 
-ghost use Rattle.std.specs.Prelude.{◌≡◌, ℕ, List, ◌+◌, ◌*◌, ◌≤◌, length, [], Some, None, if◌then◌else◌};
+ghost use Rattle.std.specs.Prelude.{◌≡◌, ◌↔◌, true, ℕ, List, ◌+◌, ◌*◌, ◌≤◌, length, [], Some, None, if◌then◌else◌};
 ghost use Rattle.words.specs.Words.{number_at};
 ghost use Rattle.flowsheet.specs.Sheet.{no_stream, sheet_of, place_of, ends_of, known_end, in_turn, weight_fault, stream_fault};
 ghost use Rattle.flowsheet.specs.Answers.{number_of, fault_of, numbered, reading};
+ghost use Rattle.flowsheet.specs.Good.{GoodSheet, rows_good, is_good};
 ghost use Rattle.flowsheet.specs.Image.{header_of, laid_out, stream_held, fault_at, table_read, reading_of};
 
 use rows::{Blank, Row};
@@ -321,6 +322,31 @@ fn read_table<R: Record, const N: usize>(
         records.push(record);
     }
     Ok(records)
+}
+
+// Whether the numbers of a table's records are in turn and all else in them is good.
+fn all_good<R: Record>(records: &[R], units: &[u16]) -> bool
+    ensures { result ≡ rows_good R.number (R.fault units.now) 0 records.now }
+{
+    // below every number that is in turn, as in `read_table`
+    let mut last = 0;
+    for record in records {
+        if !in_turn(record.number(), last) || record.check(units).is_err() {
+            return false;
+        }
+        last = record.number();
+    }
+    true
+}
+
+// Whether a flowsheet could have been read: its image would be accepted.
+pub fn is_good(sheet: &Flowsheet) -> bool
+    ensures tested { result ≡ is_good sheet.now.units sheet.now.streams }
+    ensures exactly { (result ≡ true) ↔ GoodSheet sheet.now }
+{
+    let units = sheet.units.items();
+    let streams = sheet.streams.items();
+    all_good(units, &[]) && all_good(streams, units)
 }
 
 // A flowsheet of no units and no streams.

@@ -1,6 +1,6 @@
 -- Little-endian numbers, once for every width. A number of a + b bytes is the number of its first a bytes and, 256 ^ a
 -- times, that of the others; so the wider functions follow from the narrower. Assumes nothing.
-use mathlib.Core.List.{List, [], ◌∷◌, ◌++◌}
+use mathlib.Core.List.{List, [], ◌∷◌, ◌++◌, append_assoc}
 use mathlib.Core.Logic.{◌⊎◌, inl, inr}
 use mathlib.Core.Path.{◌≡◌, refl, sym, ap, ◌∙◌}
 use Prim.Native.Nat.{ℕ, zero, suc, ◌+◌, ◌*◌, ◌/◌, ◌%◌, ◌^◌, ◌≤◌, ◌<◌}
@@ -8,8 +8,8 @@ use native.Mathlib.Nat.{zero-add, suc-add, add-zero, mul_assoc, pow-suc, pow-suc
 use native.Mathlib.Numerals.{add-one}
 use native.Mathlib.Omega.{arith}
 use lib.Arith.{mod-mul, digits_div, digits_mod}
-use lib.ListN.{length, get_or, set, take, drop, length-set}
-use lib.Seq.{sets, get_or-set_same, get_or-set_other, drop-set-lt, drop-cons}
+use lib.ListN.{length, get_or, set, take, drop, length-set, length-append}
+use lib.Seq.{sets, get_or-set_same, get_or-set_other, drop-set-lt, drop-cons, get_or-append_seam}
 use Rattle.words.specs.Words.{number_at, bytes_of, with_number}
 
 -- every element of the row is a byte
@@ -136,3 +136,15 @@ bytes_of_number (suc k) l i b h =
     let q : (get_or l i 0 + 256 * number_at k l (i + 1)) % 256 ≡ get_or l i 0 = omega (arith, b i) in
     let d : (get_or l i 0 + 256 * number_at k l (i + 1)) / 256 ≡ number_at k l (i + 1) = omega (arith, b i) in
     rw (q, d, bytes_of_number k l (i + 1) b (omega arith), drop-cons l i 0 (omega arith), add-one i)
+
+-- the number that the bytes of v hold is v, wherever they stand in a row
+pub number_of_bytes : (k v : ℕ) (before after : List ℕ) → v < 256 ^ k → number_at k (before ++ (bytes_of k v ++ after)) (length before) ≡ v
+unfolding bytes_of number_at
+number_of_bytes zero v before after h = omega arith
+number_of_bytes (suc k) v before after h =
+    let e : before ++ (v % 256 ∷ (bytes_of k (v / 256) ++ after)) ≡ (before ++ (v % 256 ∷ [])) ++ (bytes_of k (v / 256) ++ after) =
+    sym (append_assoc before (v % 256 ∷ []) (bytes_of k (v / 256) ++ after)) in
+    let n : length (before ++ (v % 256 ∷ [])) ≡ length before + 1 = length-append before (v % 256 ∷ []) in
+    let r : number_at k (before ++ (v % 256 ∷ (bytes_of k (v / 256) ++ after))) (length before + 1) ≡ v / 256 =
+    rw (e, ← n) (number_of_bytes k (v / 256) (before ++ (v % 256 ∷ [])) after (omega (arith, pow-succ' 256 k))) in
+    rw (get_or-append_seam before (v % 256) (bytes_of k (v / 256) ++ after) 0, r) (omega arith)
