@@ -4,7 +4,8 @@ use mathlib.Core.Bool.{Bool, true, false, cond}
 use mathlib.Core.List.{List, [], ◌∷◌, map}
 use mathlib.Core.Path.{◌≡◌, refl, sym, ap, ◌∙◌}
 use Prim.Native.Nat.{ℕ, zero, suc, ◌≤◌, ◌<◌}
-use borrow.Author.Tests.{le-leb, lt-leb}
+use native.Mathlib.Omega.{arith}
+use borrow.Author.Tests.{le-leb, lt-leb, leb-true}
 use lib.Dec.{leb}
 use lib.ListN.{length}
 use Rattle.blocks.specs.Blocks.{members_of}
@@ -19,8 +20,8 @@ use Rattle.flowsheet.specs.declared.Flowsheet.{Flowsheet}
 use Rattle.flowsheet.specs.declared.Refusal.{Refusal as image_refusal}
 use Rattle.flowsheet.specs.declared.Stream.{Stream}
 use Rattle.flowsheet.proofs.Good.{read_good, read_refused}
-use Rattle.flowsheet.proofs.Tables.{number_some}
-use Rattle.planner.specs.Answer.{Planned, plan_number, refused_plan, planned, planned_of, planned_from, planned_image, number_from, buffer_from, Sorted}
+use Rattle.flowsheet.proofs.Tables.{number_some as image_some}
+use Rattle.planner.specs.Answer.{Planned, plan_number, refused_plan, planned, planned_as, planned_of, planned_from, planned_image, number_from, buffer_from, Sorted}
 use Rattle.planner.specs.Image.{plan_length}
 use Rattle.planner.specs.Links.{links_of}
 use Rattle.planner.specs.Plan.{reach_in, block_at, block_order, blocks_of, any_over, too_large, plan_of}
@@ -29,6 +30,7 @@ use Rattle.planner.specs.declared.Plan.{Plan}
 use Rattle.planner.specs.declared.Refusal.{Refusal}
 use Rattle.planner.specs.declared.Refusal.TheVariants.{Image}
 use Rattle.std.specs.Prelude.{Result, Ok, Err}
+use Rattle.planner.proofs.SettledPlan.{number_some}
 use Rattle.planner.proofs.Turns.{units_in-length}
 
 over_same : (f g : ℕ → List ℕ) (o : List ℕ) → ((p : ℕ) → length (f p) ≡ length (g p)) → any_over (map f o) ≡ any_over (map g o)
@@ -82,13 +84,41 @@ module _ (sheet : Flowsheet) (g : GoodSheet sheet) (reach : Reach) (is : reach.r
     unfolding planned_of plan_number
     planned_made small h plan made = rw (← large_is, small, le-leb 65536 room h, made)
 
+-- ---- what an answer tells
+
+module _ (us : List ℕ) (ss : List Stream) (room : ℕ) where
+  -- the answer, by whether a block is over 12 and whether the memory is long enough
+  abbrev by : Bool → Bool → Planned
+  by large long = planned_as (cond large 11 (cond long 0 12)) us ss
+
+  -- a plan: no block is over 12, the memory is long enough, and the plan is the flowsheet's
+  pub plan_told : (plan : Plan) → planned (Ok plan) ≡ planned_of us ss room
+      → (too_large us ss ≡ false) × (65536 ≤ room) × (plan ≡ plan_value (plan_of us ss))
+  unfolding planned_of plan_number
+  plan_told plan e = go (too_large us ss) (leb 65536 room) refl refl e
+    where
+      go : (large long : Bool) → too_large us ss ≡ large → leb 65536 room ≡ long → planned (Ok plan) ≡ by large long
+          → (too_large us ss ≡ false) × (65536 ≤ room) × (plan ≡ plan_value (plan_of us ss))
+      go true long h r e = absurd (let z : ◌≡◌ {A = ℕ} 0 11 = ap (λ (x : Planned). x.number) e in omega arith)
+      go false false h r e = absurd (let z : ◌≡◌ {A = ℕ} 0 12 = ap (λ (x : Planned). x.number) e in omega arith)
+      go false true h r e = (h, leb-true 65536 room r, ap (λ (x : Planned). x.plan) e)
+
+  -- a refusal where the memory is long enough: some block is over 12
+  pub large_told : 65536 ≤ room → (why : Refusal) → planned (Err why) ≡ planned_of us ss room → too_large us ss ≡ true
+  unfolding planned_of plan_number
+  large_told long why e = go (too_large us ss) refl (rw (le-leb 65536 room long) at e)
+    where
+      go : (large : Bool) → too_large us ss ≡ large → planned (Err why) ≡ by large true → too_large us ss ≡ true
+      go true h e = h
+      go false h e = absurd (number_some why (ap (λ (x : Planned). x.number) e))
+
 -- ---- planning on an image
 
 module _ (image : List ℕ) (room : ℕ) where
   pub image_refused : (why : image_refusal) → reading (Err why) ≡ reading_of image → (answer : Result Plan Refusal) → answer ≡ Err (Image why)
       → planned answer ≡ planned_image image room
   unfolding planned_image
-  image_refused why e answer is = rw (is, read_refused image why e) (go (image_number why) (number_some why))
+  image_refused why e answer is = rw (is, read_refused image why e) (go (image_number why) (image_some why))
     where
       go : (n : ℕ) → (n ≡ 0 → ⊥) → refused_plan n ≡ planned_from n image room
       go zero f = absurd (f refl)
