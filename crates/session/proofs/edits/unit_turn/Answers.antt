@@ -1,0 +1,16 @@
+-- What `position` finds is the place to go, in the library's words.
+use Rattle.std.proofs.Common.{ℕ, Bool, ltb, rules, tests, ◌∙◌}
+use Rattle.std.proofs.lemmas.Iterator.{YieldsList-from_slice}
+use Rattle.std.proofs.lemmas.Iterator.Search.{position_from_yields_List}
+use Rattle.session.proofs.Places.{first_or_end}
+use Rattle.session.specs.Edited.{unit_turn}
+use Rattle.session.proofs.edits.unit_turn.Goals as goal
+
+pub returns : goal.returns
+unfolding unit_turn
+returns c =
+    let above : ℕ → Bool = λ u. ltb c.args.number u in
+    let found =
+    position_from_yields_List above _ _ c.position.result c.position.ensures.ran
+    (YieldsList-from_slice c.args.units.now cc) (λ x b q k. search (rules, tests)) in
+    rw found at c.unwrap_or.ensures ∙ first_or_end above c.args.units.now
