@@ -1,2 +1,3 @@
--- The definitions that the proved cases go by.
+-- The definitions that the contracts and the proved cases of `cases` go by.
+pub mod Images
 pub mod Paper

@@ -2,10 +2,12 @@
 #![tactic(auto)]
 
 mod images;
+mod readings;
 mod report;
 
 use std::io;
 
 fn main(rt: HostRuntime) -> io::Result<()> {
-    images::run(&rt)
+    println!(rt; "Images read: 0 or the refusal's number")?;
+    readings::run(&rt)
 }
