@@ -2,6 +2,7 @@
 #![tactic(auto)]
 
 mod images;
+mod plans;
 mod readings;
 mod report;
 
@@ -9,5 +10,7 @@ use std::io;
 
 fn main(rt: HostRuntime) -> io::Result<()> {
     println!(rt; "Images read: 0 or the refusal's number")?;
-    readings::run(&rt)
+    readings::run(&rt)?;
+    println!(rt; "Images planned: 0 or the refusal's number; the plan; the memory")?;
+    plans::run(&rt)
 }

@@ -15,3 +15,22 @@ pub(crate) fn line(
         println!(rt; "{name}: {came} WRONG, should be {wanted}")
     }
 }
+
+// Items with a space between them, or a hyphen for none.
+#[derive(Clone, Copy)]
+pub(crate) struct Listed<'a, T>(pub(crate) &'a [T]);
+
+impl<T: fmt::Display> fmt::Display for Listed<'_, T> {
+    fn fmt<W: fmt::Write>(&self, f: &mut fmt::Formatter<W>) -> fmt::Result {
+        if self.0.is_empty() {
+            return write!(f, "-");
+        }
+        for (i, item) in self.0.iter().enumerate() {
+            if 0 < i {
+                write!(f, " ")?;
+            }
+            write!(f, "{item}")?;
+        }
+        Ok(())
+    }
+}
