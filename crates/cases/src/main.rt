@@ -2,6 +2,7 @@
 #![tactic(auto)]
 
 mod images;
+mod orders;
 mod plans;
 mod readings;
 mod report;
@@ -12,5 +13,7 @@ fn main(rt: HostRuntime) -> io::Result<()> {
     println!(rt; "Images read: 0 or the refusal's number")?;
     readings::run(&rt)?;
     println!(rt; "Images planned: 0 or the refusal's number; the plan; the memory")?;
-    plans::run(&rt)
+    plans::run(&rt)?;
+    println!(rt; "Places ordered: the order, and what it tears")?;
+    orders::run(&rt)
 }
