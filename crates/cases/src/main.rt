@@ -3,9 +3,12 @@
 
 mod images;
 mod orders;
+mod outcome;
 mod plans;
 mod readings;
 mod report;
+mod row_steps;
+mod steps;
 
 use std::io;
 
@@ -15,5 +18,9 @@ fn main(rt: HostRuntime) -> io::Result<()> {
     println!(rt; "Images planned: 0 or the refusal's number; the plan; the memory")?;
     plans::run(&rt)?;
     println!(rt; "Places ordered: the order, and what it tears")?;
-    orders::run(&rt)
+    orders::run(&rt)?;
+    println!(rt; "Values stepped: the verdict or the refusal's number; what stands")?;
+    steps::run(&rt)?;
+    println!(rt; "Rows stepped: the same")?;
+    row_steps::run(&rt)
 }
