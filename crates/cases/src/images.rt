@@ -1,6 +1,6 @@
 // Flowsheets' images with any counts, also over the bounds: the numbers of 16 bits that an image is, its bytes as they are lent, and the
 // units and streams that the cases are made of.
-ghost use Rattle.std.specs.Prelude.{◌≡◌, ◌+◌, ◌≤◌, length};
+ghost use Rattle.std.specs.Prelude.{◌≡◌, ◌+◌, ◌<◌, ◌≤◌, length};
 ghost use Rattle.rows.specs.Rows.{table};
 ghost use Rattle.cases.specs.Images.{numbers_of, lent_of, outward_stream, ring_stream};
 
@@ -70,18 +70,18 @@ pub fn outward(count: u16) -> Row<Stream, 257>
     streams
 }
 
-// The streams 1 to `count`, each from the unit of its number to the next, and the last to unit 1.
+// The first `count` streams of a ring of units, each from the unit of its number to the next, and that of the last unit to unit 1.
 #[tactic(auto, using(rows::proofs::Rows::table_more), unfolding(rows::specs::Rows::table))]
-pub fn ring(count: u16) -> Row<Stream, 257>
-    requires { count ≤ 257 }
-    ensures { result ≡ table (ring_stream count) count }
+pub fn ring(units: u16, count: u16) -> Row<Stream, 257>
+    requires { (0 < units) × (units ≤ 65) × (count ≤ units) }
+    ensures { result ≡ table (ring_stream units) count }
 {
     let mut streams = Row::new();
     for i in 0..count {
         streams.push(Stream {
             number: i + 1,
             source: i + 1,
-            receiver: (i + 1) % count + 1,
+            receiver: (i + 1) % units + 1,
             weight: 1,
         });
     }

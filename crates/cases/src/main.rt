@@ -1,6 +1,7 @@
 // Runs the cases that are not proved, and compares: a line for each, with what came out and what should have.
 #![tactic(auto)]
 
+mod edits;
 mod images;
 mod orders;
 mod outcome;
@@ -17,6 +18,8 @@ fn main(rt: HostRuntime) -> io::Result<()> {
     readings::run(&rt)?;
     println!(rt; "Images planned: 0 or the refusal's number; the plan; the memory")?;
     plans::run(&rt)?;
+    println!(rt; "Sessions edited: the plan, or 0 or the refusal's number")?;
+    edits::run(&rt)?;
     println!(rt; "Places ordered: the order, and what it tears")?;
     orders::run(&rt)?;
     println!(rt; "Values stepped: the verdict or the refusal's number; what stands")?;

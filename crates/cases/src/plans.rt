@@ -1,6 +1,6 @@
 // Plans of images: what planning answers, the plan's image in the lent buffer, and what is left of the buffer and of the working memory.
 // Both are lent full of 255, which no byte of these plans' images is.
-ghost use Rattle.std.specs.Prelude.{◌≤◌, length, IfOk};
+ghost use Rattle.std.specs.Prelude.{◌≤◌, ◌<◌, length, IfOk};
 
 use crate::images::{self, Numbers};
 use crate::report::{self, Listed};
@@ -169,11 +169,11 @@ fn planned(
 
 // The image of a ring of units.
 fn ring(count: u16) -> Numbers
-    requires { count ≤ 65 }
+    requires { (0 < count) × (count ≤ 65) }
 {
     images::image_of(
         images::first_units(count).items(),
-        images::ring(count).items(),
+        images::ring(count, count).items(),
     )
 }
 
@@ -202,7 +202,7 @@ fn stream(number: u16, source: u16, receiver: u16) -> Stream {
 }
 
 // The image of case A.
-fn case_a() -> Numbers {
+pub(crate) fn case_a() -> Numbers {
     let streams = [
         stream(1, 1, 2),
         stream(2, 2, 3),

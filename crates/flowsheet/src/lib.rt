@@ -41,7 +41,7 @@ pub type Units = Row<u16, 64>;
 // Streams, in the order of their numbers.
 pub type Streams = Row<Stream, 256>;
 
-#[derive(Clone, Copy)]
+#[derive(Clone, Copy, PartialEq)]
 pub struct Flowsheet {
     pub units: Units,
     pub streams: Streams,

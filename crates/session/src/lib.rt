@@ -17,7 +17,7 @@ use planner::Plan;
 
 // A flowsheet, and the plan that the rules fix for it. The fields are open, so a host can hand in one that no calls could have left: every edit
 // asks.
-#[derive(Clone, Copy)]
+#[derive(Clone, Copy, PartialEq)]
 pub struct Session {
     pub sheet: Flowsheet,
     pub plan: Plan,

@@ -5,4 +5,4 @@ use Rattle.cases.specs.Images.{ring_stream}
 use Rattle.cases.proofs.images.ring.Given as goal
 
 abbrev pub invariant-loop-i : goal.invariant-loop-i
-invariant-loop-i l = (length l.streams ≡ l.i) × (l.streams ≡ table (ring_stream l.count) l.i)
+invariant-loop-i l = (length l.streams ≡ l.i) × (l.streams ≡ table (ring_stream l.units) l.i)
