@@ -8,11 +8,11 @@ use flowsheet::Stream;
 use rows::Row;
 
 // The numbers of an image: the header's eight, those of up to 65 units, and four for each of up to 257 streams.
-pub type Numbers = Row<u16, 1101>;
+pub(crate) type Numbers = Row<u16, 1101>;
 
 // The numbers of the image of these units and streams.
 #[tactic(auto, unfolding(crate::specs::Images::numbers_of))]
-pub fn image_of(units: &[u16], streams: &[Stream]) -> Numbers
+pub(crate) fn image_of(units: &[u16], streams: &[Stream]) -> Numbers
     requires { (length units.now ≤ 65) × (length streams.now ≤ 257) }
     ensures { result ≡ numbers_of units.now streams.now }
 {
@@ -30,7 +30,7 @@ pub fn image_of(units: &[u16], streams: &[Stream]) -> Numbers
 
 // The bytes of numbers at the front of a row, and zero beyond them.
 #[tactic(auto, unfolding(crate::specs::Images::lent_of))]
-pub fn lent(numbers: &[u16]) -> [u8; 2202]
+pub(crate) fn lent(numbers: &[u16]) -> [u8; 2202]
     requires { length numbers.now ≤ 1101 }
     ensures { result ≡ lent_of numbers.now }
 {
@@ -41,7 +41,7 @@ pub fn lent(numbers: &[u16]) -> [u8; 2202]
 
 // The units 1 to `count`.
 #[tactic(auto, using(rows::proofs::Rows::table_more), unfolding(rows::specs::Rows::table))]
-pub fn first_units(count: u16) -> Row<u16, 65>
+pub(crate) fn first_units(count: u16) -> Row<u16, 65>
     requires { count ≤ 65 }
     ensures { result ≡ table (λ i. i + 1) count }
 {
@@ -54,7 +54,7 @@ pub fn first_units(count: u16) -> Row<u16, 65>
 
 // The streams 1 to `count`, each from unit 1 to outside.
 #[tactic(auto, using(rows::proofs::Rows::table_more), unfolding(rows::specs::Rows::table))]
-pub fn outward(count: u16) -> Row<Stream, 257>
+pub(crate) fn outward(count: u16) -> Row<Stream, 257>
     requires { count ≤ 257 }
     ensures { result ≡ table outward_stream count }
 {
@@ -72,7 +72,7 @@ pub fn outward(count: u16) -> Row<Stream, 257>
 
 // The first `count` streams of a ring of units, each from the unit of its number to the next, and that of the last unit to unit 1.
 #[tactic(auto, using(rows::proofs::Rows::table_more), unfolding(rows::specs::Rows::table))]
-pub fn ring(units: u16, count: u16) -> Row<Stream, 257>
+pub(crate) fn ring(units: u16, count: u16) -> Row<Stream, 257>
     requires { (0 < units) × (units ≤ 65) × (count ≤ units) }
     ensures { result ≡ table (ring_stream units) count }
 {

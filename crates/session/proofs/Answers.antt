@@ -119,13 +119,14 @@ module _ (e : Edit) (s : Session) (room : ℕ) where
             go zero some q m = absurd (large_some e some)
             go (suc n) some q m = rw q m
 
-        -- made
-        pub planned_after : (plan : Plan) → planned (Ok plan) ≡ planned_of sheet.units sheet.streams left
-            → record { number = 0; session = record { sheet = sheet; plan = plan } } ≡ made_of e s room
+        -- made: `after` is the flowsheet that the edit leaves
+        pub planned_after : (after : Flowsheet) → after ≡ sheet → (plan : Plan)
+            → planned (Ok plan) ≡ planned_of after.units after.streams left
+            → record { number = 0; session = record { sheet = after; plan = plan } } ≡ made_of e s room
         unfolding session_of
-        planned_after plan is =
-            let r = plan_told sheet.units sheet.streams left plan is in
-            rw r.2 (made_told 0 (rw (← sound, r.0) refl))
+        planned_after after same plan is =
+            let r = plan_told sheet.units sheet.streams left plan (rw same at is) in
+            rw (same, r.2) (made_told 0 (rw (← sound, r.0) refl))
 
 -- ---- what is told, and what is left of the memory once it is cleared
 

@@ -26,9 +26,8 @@ plan_of-requires c =
 pub returns-in-Ok-clause-answer : goal.returns-in-Ok-clause-answer
 returns-in-Ok-clause-answer c =
     let held : is_held c.args.self.now ≡ true = cc in
-    rw c.in_ok-edit.ensures.sheet
-    (planned_after c.args.edit c.args.self.now (length c.args.work.now) (omega arith) held c.in_ok-edit.ensures.number
-    (length c.is_held.new.work) c.is_held.ensures.work.long c.in-Ok.plan (rw c.in_ok-edit.ensures.sheet at c.in-Ok.ensures.answer))
+    planned_after c.args.edit c.args.self.now (length c.args.work.now) (omega arith) held c.in_ok-edit.ensures.number
+    (length c.is_held.new.work) c.is_held.ensures.work.long c.edit.new.sheet c.in_ok-edit.ensures.sheet c.in-Ok.plan c.in-Ok.ensures.answer
 
 pub returns-in-Ok-clause-work : goal.returns-in-Ok-clause-work
 returns-in-Ok-clause-work c =
