@@ -1,12 +1,13 @@
 -- What the functions that plan answer is settled, with the memory that they are lent: two results that a statement allows are equal, since
 -- a number is that of one refusal. Assumes nothing.
-use Rattle.std.proofs.Common.{arith, cond, eqb, ◌≡◌, ℕ, List, Result, length, refl, sym, ap, ◌∙◌}
+use Rattle.std.proofs.Common.{arith, cond, eqb, ◌≡◌, ℕ, List, [], Result, length, refl, sym, ap, ◌∙◌}
 use Rattle.flowsheet.specs.declared.Flowsheet.{Flowsheet}
 use Rattle.flowsheet.specs.declared.Refusal.TheVariants.{Short}
 use Rattle.flowsheet.proofs.Tables.{number_some as image_some}
 use Rattle.flowsheet.proofs.Settled.{refusal_from as image_from}
 use Rattle.flowsheet.proofs.Told.{one_answer}
-use Rattle.planner.specs.Answer.{number_of, planned, planned_of, planned_image, code_of, buffer_from, Planning}
+use Rattle.planner.specs.Answer.{number_of, planned, planned_of, planned_image, code_of, buffer_from, work_after, Planning}
+use Rattle.planner.specs.Tables.{plan_value}
 use Rattle.planner.specs.declared.Plan.{Plan}
 use Rattle.planner.specs.declared.Refusal.{Refusal}
 use Rattle.planner.specs.declared.Refusal.TheVariants.{Image, LargeBlock, NoRoom}
@@ -58,3 +59,9 @@ planning_one {image} {buffer} {work} e f =
 pub plan_image_settled : (image buffer work : List ℕ) (r s : Result (Unit {0}) Refusal) (b c w v : List ℕ)
     → Planning image buffer work (code_of r) b w → Planning image buffer work (code_of s) c v → (r ≡ s) × (b ≡ c) × (w ≡ v)
 plan_image_settled image buffer work r s b c w v e f = let one = planning_one e f in (one_code r s one.0, one.1, one.2)
+
+pub no_plan_settled : (r s : Plan) → r ≡ plan_value [] → s ≡ plan_value [] → r ≡ s
+no_plan_settled r s e f = e ∙ sym f
+
+pub clear_work_settled : (work r s : List ℕ) → r ≡ work_after work → s ≡ work_after work → r ≡ s
+clear_work_settled work r s e f = e ∙ sym f

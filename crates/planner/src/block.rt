@@ -10,11 +10,11 @@ use rows::Row;
 use tearing::Weights;
 
 // The units of a block, of which there are at most 12.
-pub type Block = Row<u16, 12>;
+pub(crate) type Block = Row<u16, 12>;
 
 // The units in these places, in the places' order.
 #[tactic(auto, using(crate::proofs::Turns::map_more), unfolding(crate::specs::Plan::units_in))]
-pub fn units_in(units: &[u16], places: &[u8]) -> Block
+pub(crate) fn units_in(units: &[u16], places: &[u8]) -> Block
     requires { (length places.now ≤ 12) × ((k : ℕ) → k < length places.now → get_or places.now k 0 < length units.now) }
     ensures { result ≡ units_in units.now places.now }
 {
@@ -60,7 +60,7 @@ fn weights_of(block: &Block, streams: &Streams) -> Weights
 
 // The block's units in the order that tears least and, of those, comes first. Of the memory it leaves zero what tearing used, four bytes
 // for each set of the units; the rest stay.
-pub fn ordered(block: &Block, streams: &Streams, memory: &mut [u8; 65536]) -> Block
+pub(crate) fn ordered(block: &Block, streams: &Streams, memory: &mut [u8; 65536]) -> Block
     ensures units { result ≡ ordered_of block.now streams.now }
     ensures work { memory.new ≡ cleared memory.old (4 * 2 ^ length block.now) }
 {
@@ -84,7 +84,7 @@ fn is_torn(order: &[u16], stream: &Stream) -> bool
 
 // Adds the block's torn streams to the table.
 #[tactic(auto, using(crate::proofs::Append::torn_next, crate::proofs::Append::torn_same, crate::proofs::Append::torn_room), unfolding(crate::specs::Plan::torn_of))]
-pub fn add_torn(table: &mut Numbers, order: &[u16], streams: &[Stream])
+pub(crate) fn add_torn(table: &mut Numbers, order: &[u16], streams: &[Stream])
     requires { length table.old + length (torn_of order.now streams.now) ≤ 256 }
     ensures { table.new ≡ table.old ++ torn_of order.now streams.now }
 {

@@ -6,7 +6,7 @@ use flowsheet::Flowsheet;
 
 // The links of all the streams. A stream from or to outside has none.
 #[tactic(auto, using(crate::proofs::Ends::ends_held, crate::proofs::Ends::link_both, crate::proofs::Ends::link_apart, crate::proofs::Turns::links_more), unfolding(crate::specs::Links::links_of))]
-pub fn links_of(sheet: &Flowsheet) -> [u64; 64]
+pub(crate) fn links_of(sheet: &Flowsheet) -> [u64; 64]
     ensures { result ≡ links_of sheet.now.units sheet.now.streams }
 {
     let units = sheet.units.items();

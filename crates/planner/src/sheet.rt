@@ -87,7 +87,7 @@ fn plan_blocks(sheet: &Flowsheet, reach: &Reach, order: &[u8], memory: &mut [u8;
 
 // The plan of a flowsheet, or 11, or 12 where the working memory is short. It leaves the memory uncleared.
 #[tactic(auto, using(crate::proofs::Answers::planned_large, crate::proofs::Answers::planned_short))]
-pub fn planned(sheet: &Flowsheet, work: &mut [u8]) -> Result<Plan, Refusal>
+pub(crate) fn planned(sheet: &Flowsheet, work: &mut [u8]) -> Result<Plan, Refusal>
     requires { GoodSheet sheet.now }
     ensures answer { planned result ≡ planned_of sheet.now.units sheet.now.streams (length work.old) }
     ensures work { Spent work.old work.new }

@@ -26,7 +26,7 @@ fn header(blocks: usize, order: usize, torn: usize) -> [u16; 8]
 }
 
 // How many bytes the image of a plan has.
-pub fn image_length(plan: &Plan) -> usize
+pub(crate) fn image_length(plan: &Plan) -> usize
     ensures { result ≡ plan_length plan.now }
 {
     let blocks = plan.blocks.items();
@@ -37,7 +37,7 @@ pub fn image_length(plan: &Plan) -> usize
 
 // Writes the image of a plan to the front of a buffer that is long enough; the bytes beyond it stay.
 #[tactic(auto, using(crate::proofs::Image::all_written))]
-pub fn put_plan(plan: &Plan, buffer: &mut [u8])
+pub(crate) fn put_plan(plan: &Plan, buffer: &mut [u8])
     requires { plan_length plan.now ≤ length buffer.old }
     ensures { buffer.new ≡ laid_over (plan_bytes plan.now) buffer.old }
 {

@@ -1,5 +1,5 @@
 // The edits of a flowsheet by itself: what each is refused with for the flowsheet's sake, and the flowsheet after it.
-ghost use Rattle.std.specs.Prelude.{◌≡◌, OnOk};
+ghost use Rattle.std.specs.Prelude.{◌≡◌, OnOk, OnErr};
 ghost use Rattle.session.specs.Answer.{number_of, code_of, large_number};
 ghost use Rattle.session.specs.Edited.{edited, stream_place, unit_turn, stream_turn};
 ghost use Rattle.session.specs.Refused.{add_fault, ends_at, touched, fault_of};
@@ -74,6 +74,7 @@ fn check_number(number: u16, held: bool, count: usize, most: usize) -> Result<()
 fn add_unit(sheet: &mut Flowsheet, number: u16) -> Result<(), Refusal>
     ensures number { code_of result ≡ fault_of (AddUnit number) sheet.old }
     ensures sheet { OnOk result (sheet.new ≡ edited (AddUnit number) sheet.old) }
+    ensures stays { OnErr result (sheet.new ≡ sheet.old) }
 {
     let units = sheet.units.items();
     let held = flowsheet::place_of(units, number).is_some();
@@ -87,6 +88,7 @@ fn add_unit(sheet: &mut Flowsheet, number: u16) -> Result<(), Refusal>
 fn remove_unit(sheet: &mut Flowsheet, number: u16) -> Result<(), Refusal>
     ensures number { code_of result ≡ fault_of (RemoveUnit number) sheet.old }
     ensures sheet { OnOk result (sheet.new ≡ edited (RemoveUnit number) sheet.old) }
+    ensures stays { OnErr result (sheet.new ≡ sheet.old) }
 {
     let Some(at) = flowsheet::place_of(sheet.units.items(), number) else {
         return Err(Refusal::NotHeld);
@@ -102,6 +104,7 @@ fn remove_unit(sheet: &mut Flowsheet, number: u16) -> Result<(), Refusal>
 fn add_stream(sheet: &mut Flowsheet, stream: Stream) -> Result<(), Refusal>
     ensures number { code_of result ≡ fault_of (AddStream stream) sheet.old }
     ensures sheet { OnOk result (sheet.new ≡ edited (AddStream stream) sheet.old) }
+    ensures stays { OnErr result (sheet.new ≡ sheet.old) }
 {
     let streams = sheet.streams.items();
     let held = stream_place(streams, stream.number).is_some();
@@ -116,6 +119,7 @@ fn add_stream(sheet: &mut Flowsheet, stream: Stream) -> Result<(), Refusal>
 fn remove_stream(sheet: &mut Flowsheet, number: u16) -> Result<(), Refusal>
     ensures number { code_of result ≡ fault_of (RemoveStream number) sheet.old }
     ensures sheet { OnOk result (sheet.new ≡ edited (RemoveStream number) sheet.old) }
+    ensures stays { OnErr result (sheet.new ≡ sheet.old) }
 {
     let Some(at) = stream_place(sheet.streams.items(), number) else {
         return Err(Refusal::NotHeld);
@@ -128,6 +132,7 @@ fn remove_stream(sheet: &mut Flowsheet, number: u16) -> Result<(), Refusal>
 fn set_weight(sheet: &mut Flowsheet, number: u16, weight: u16) -> Result<(), Refusal>
     ensures number { code_of result ≡ fault_of (SetWeight number weight) sheet.old }
     ensures sheet { OnOk result (sheet.new ≡ edited (SetWeight number weight) sheet.old) }
+    ensures stays { OnErr result (sheet.new ≡ sheet.old) }
 {
     let streams = sheet.streams.items();
     let Some(at) = stream_place(streams, number) else {
@@ -140,9 +145,10 @@ fn set_weight(sheet: &mut Flowsheet, number: u16, weight: u16) -> Result<(), Ref
 }
 
 // Makes an edit of a flowsheet, or gives the first number that refuses it for the flowsheet's sake: all but 11 and 25.
-pub fn edit(sheet: &mut Flowsheet, edit: Edit) -> Result<(), Refusal>
+pub(crate) fn edit(sheet: &mut Flowsheet, edit: Edit) -> Result<(), Refusal>
     ensures number { code_of result ≡ fault_of edit sheet.old }
     ensures sheet { OnOk result (sheet.new ≡ edited edit sheet.old) }
+    ensures stays { OnErr result (sheet.new ≡ sheet.old) }
 {
     match edit {
         Edit::AddUnit(number) => add_unit(sheet, number),
@@ -154,7 +160,7 @@ pub fn edit(sheet: &mut Flowsheet, edit: Edit) -> Result<(), Refusal>
 }
 
 // The refusal of an edit after which a block has over 12 units: 11, or 25 where it adds no stream.
-pub fn large(edit: Edit) -> Refusal
+pub(crate) fn large(edit: Edit) -> Refusal
     ensures { number_of result ≡ large_number edit }
 {
     match edit {

@@ -2,3 +2,4 @@
 pub mod Numbers
 pub mod Rows
 pub mod Cleared
+pub mod Settled
