@@ -6,6 +6,7 @@
  */
 #define _POSIX_C_SOURCE 199309L
 
+#include "image.h"
 #include "najmudhil.h"
 #include "plain.h"
 
@@ -21,13 +22,6 @@ typedef uint32_t planner(const uint8_t *, size_t, uint8_t *, size_t, uint8_t *, 
 static alignas(uint32_t) uint8_t work[WORK];
 static uint8_t image[IMAGE], proved[PLAN], plain[PLAN];
 
-static uint8_t *put(uint8_t *at, unsigned number)
-{
-    at[0] = number % 256;
-    at[1] = number / 256;
-    return at + 2;
-}
-
 /* A number below `bound`, the same in each run. */
 static unsigned drawn(unsigned bound)
 {
@@ -39,12 +33,7 @@ static unsigned drawn(unsigned bound)
 /* The streams go round the blocks: of each block's fifty the first twelve make it a ring, and the others join any of its units. */
 static void write_image(void)
 {
-    const unsigned header[8] = {1, UNITS, STREAMS, 16, 16 + 2 * UNITS, IMAGE, 0, 0};
-    uint8_t *at = image;
-    for (int i = 0; i < 8; i++)
-        at = put(at, header[i]);
-    for (unsigned unit = 1; unit <= UNITS; unit++)
-        at = put(at, unit);
+    uint8_t *at = put_front(image, UNITS, STREAMS);
     for (unsigned i = 0; i < STREAMS; i++) {
         unsigned first = i % BLOCKS * BLOCK + 1, turn = i / BLOCKS;
         unsigned source = turn < BLOCK ? turn : drawn(BLOCK), receiver = turn < BLOCK ? (turn + 1) % BLOCK : drawn(BLOCK);

@@ -3,6 +3,7 @@
  * the rules say, byte by byte: the answer, the plan, the bytes of the lent buffer beyond it, and the working memory. One line a check; ends with
  * 0 where all of them hold.
  */
+#include "image.h"
 #include "najmudhil.h"
 
 #include <stdio.h>
@@ -26,21 +27,9 @@ static const uint16_t wanted[PLAN / 2] = {
     6,
 };
 
-static uint8_t *put(uint8_t *at, uint16_t number)
-{
-    at[0] = number % 256;
-    at[1] = number / 256;
-    return at + 2;
-}
-
 static void write_image(uint8_t image[IMAGE])
 {
-    const uint16_t header[8] = {1, UNITS, STREAMS, 16, 16 + 2 * UNITS, IMAGE, 0, 0};
-    uint8_t *at = image;
-    for (int i = 0; i < 8; i++)
-        at = put(at, header[i]);
-    for (uint16_t unit = 1; unit <= UNITS; unit++)
-        at = put(at, unit);
+    uint8_t *at = put_front(image, UNITS, STREAMS);
     for (int i = 0; i < STREAMS; i++)
         for (int k = 0; k < 4; k++)
             at = put(at, streams[i][k]);

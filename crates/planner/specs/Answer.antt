@@ -1,9 +1,9 @@
 -- What planning a flowsheet answers and leaves: 11, then 12, then the plan; and rule 5.
-use Rattle.std.specs.Prelude.{false, cond, List, [], ◌≡◌, ℕ, zero, suc, ◌<◌, leb, length, drop, Result, Ok, Err}
+use Rattle.std.specs.Prelude.{false, cond, List, [], ◌≡◌, ℕ, zero, suc, ◌<◌, leb, length, drop, Result}
 use Rattle.flowsheet.specs.Good.{GoodSheet}
 use Rattle.flowsheet.specs.Image.{first, unit_list, stream_list, answer_of}
 use Rattle.blocks.specs.declared.Reach.{Reach}
-use Rattle.flowsheet.specs.Answers.{number_of as image_number}
+use Rattle.flowsheet.specs.Answers.{number_of as image_number, told, code_by}
 use Rattle.flowsheet.specs.declared.Flowsheet.{Flowsheet}
 use Rattle.flowsheet.specs.declared.Stream.{Stream}
 use Rattle.words.specs.Words.{cleared}
@@ -35,8 +35,7 @@ refused_plan k = record { number = k; plan = plan_value [] }
 
 -- what a function that plans returns, as such an answer
 abbrev pub planned : Result Plan Refusal → Planned
-planned (Ok p) = record { number = 0; plan = p }
-planned (Err r) = refused_plan (number_of r)
+planned answer = told (λ p. record { number = 0; plan = p }) (λ r. refused_plan (number_of r)) answer
 
 abbrev pub planned_as : ℕ → List ℕ → List Stream → Planned
 planned_as zero us ss = record { number = 0; plan = plan_value (plan_of us ss) }
@@ -75,8 +74,7 @@ planned_image image room = planned_from (answer_of image) image room
 
 -- what the plant's program is told: 0, or the refusal's number
 abbrev pub code_of : {A : Type 0} → Result A Refusal → ℕ
-code_of (Ok a) = 0
-code_of (Err r) = number_of r
+code_of answer = code_by number_of answer
 
 -- then 12, "plan buffer shorter than the plan"; 0 where the plan is written
 abbrev pub number_from : Planned → ℕ → ℕ

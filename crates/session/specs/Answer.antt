@@ -1,6 +1,6 @@
 -- What opening and edits answer and leave: the number, 0 where nothing is refused, the session, and the working memory as rule 5 says.
-use Rattle.std.specs.Prelude.{cond, ◌≡◌, List, ℕ, zero, suc, leb, length, Result, Ok, Err}
-use Rattle.flowsheet.specs.Answers.{number_of as sheet_number_of}
+use Rattle.std.specs.Prelude.{cond, ◌≡◌, List, ℕ, zero, suc, leb, length, Result}
+use Rattle.flowsheet.specs.Answers.{number_of as sheet_number_of, told, code_by}
 use Rattle.flowsheet.specs.Image.{first, unit_list, stream_list}
 use Rattle.flowsheet.specs.Sheet.{sheet_of}
 use Rattle.planner.specs.Answer.{number_of as planner_number_of, planned_image, work_after}
@@ -30,8 +30,7 @@ number_of NoSession = 26
 
 -- what a host is told: 0, or the refusal's number
 abbrev pub code_of : {A : Type 0} → Result A Refusal → ℕ
-code_of (Ok a) = 0
-code_of (Err r) = number_of r
+code_of answer = code_by number_of answer
 
 -- a number, and the session that goes with it
 pub record Made : Type 0 where
@@ -42,6 +41,10 @@ pub record Made : Type 0 where
 abbrev pub kept_or : ℕ → Session → Session → Made
 kept_or zero new old = record { number = 0; session = new }
 kept_or (suc k) new old = record { number = suc k; session = old }
+
+-- what is returned, as such: a new session, or a refusal, by the numbers of its kind, beside the session that stays
+abbrev pub made_by : {E : Type 0} → (E → ℕ) → Session → Result Session E → Made
+made_by number s answer = told (λ t. record { number = 0; session = t }) (λ r. record { number = number r; session = s }) answer
 
 -- ---- edits
 
@@ -65,8 +68,7 @@ made_of e s room = kept_or (edit_number e s room) (session_of (edited e s.sheet)
 
 -- what a function that makes an edit of s returns, as such an answer
 abbrev pub made : Session → Result Session Refusal → Made
-made s (Ok t) = record { number = 0; session = t }
-made s (Err r) = record { number = number_of r; session = s }
+made s answer = made_by number_of s answer
 
 -- what an edit of s answers, and what stands after it
 pub record Editing (e : Edit) (s : Session) (work : List ℕ) (code : ℕ) (s' : Session) (work' : List ℕ) : Type 0 where
@@ -83,8 +85,7 @@ opened_of s image room =
 
 -- what a function that opens an image returns, beside a session that stays on a refusal
 abbrev pub opened : Session → Result Session planner_refusal → Made
-opened s (Ok t) = record { number = 0; session = t }
-opened s (Err r) = record { number = planner_number_of r; session = s }
+opened s answer = made_by planner_number_of s answer
 
 -- what opening an image answers a session s, and what stands after it
 pub record Opening (s : Session) (image work : List ℕ) (code : ℕ) (s' : Session) (work' : List ℕ) : Type 0 where
