@@ -1,5 +1,5 @@
 -- What each public function answers is settled: two results that its statement allows are equal. Assumes nothing.
-use Rattle.std.proofs.Common.{Bool, ◌≡◌, ℕ, ◌∷◌, List, [], Option, Result, get_or, refl, sym, ap, ◌∙◌}
+use Rattle.std.proofs.Common.{Bool, ◌≡◌, ℕ, ◌∷◌, List, [], Option, Result, get_or, refl, sym, ◌∙◌}
 use Rattle.flowsheet.specs.Answers.{number_of, fault_of, reading}
 use Rattle.flowsheet.specs.Good.{is_good}
 use Rattle.flowsheet.specs.Image.{refused_with, reading_of}
@@ -9,7 +9,7 @@ use Rattle.flowsheet.specs.declared.Refusal.{Refusal}
 use Rattle.flowsheet.specs.declared.Refusal.TheVariants.{Short, Edition, Spare, Counts, Layout, UnitNumber, StreamNumber, End, Outside, Weight}
 use Rattle.flowsheet.specs.declared.Stream.{Stream}
 use Rattle.flowsheet.proofs.Tables.{number_some}
-use Rattle.flowsheet.proofs.Told.{one_answer}
+use Rattle.flowsheet.proofs.Told.{by_number, one_answer}
 
 -- a number is that of one refusal
 unfoldable pub refusal_from : ℕ → Refusal
@@ -22,7 +22,7 @@ from_number Short = refl
 from_number _ = refl
 
 pub one_refusal : (r s : Refusal) → number_of r ≡ number_of s → r ≡ s
-one_refusal r s e = sym (from_number r) ∙ ap refusal_from e ∙ from_number s
+one_refusal = by_number number_of refusal_from from_number
 
 -- two answers with the same reading are equal
 pub one_reading : (r s : Result Flowsheet Refusal) → reading r ≡ reading s → r ≡ s

@@ -5,7 +5,7 @@ use Rattle.flowsheet.specs.declared.Flowsheet.{Flowsheet}
 use Rattle.flowsheet.specs.declared.Refusal.TheVariants.{Short}
 use Rattle.flowsheet.proofs.Tables.{number_some as image_some}
 use Rattle.flowsheet.proofs.Settled.{refusal_from as image_from}
-use Rattle.flowsheet.proofs.Told.{one_answer}
+use Rattle.flowsheet.proofs.Told.{by_number, one_answer}
 use Rattle.planner.specs.Answer.{number_of, planned, planned_of, planned_image, code_of, buffer_from, work_after, Planning}
 use Rattle.planner.specs.Tables.{plan_value}
 use Rattle.planner.specs.declared.Plan.{Plan}
@@ -22,7 +22,7 @@ from_number (Image _) = refl
 from_number _ = refl
 
 pub one_refusal : (r s : Refusal) → number_of r ≡ number_of s → r ≡ s
-one_refusal r s e = sym (from_number r) ∙ ap refusal_from e ∙ from_number s
+one_refusal = by_number number_of refusal_from from_number
 
 -- a refusal's number is not 0
 pub number_some : (r : Refusal) → number_of r ≡ 0 → ⊥

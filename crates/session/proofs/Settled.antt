@@ -1,8 +1,8 @@
 -- What the public functions answer and leave is settled: two results that a statement allows are equal. Assumes nothing.
-use Rattle.std.proofs.Common.{◌≡◌, ℕ, List, [], Result, cond, eqb, refl, sym, ap, ◌∙◌}
+use Rattle.std.proofs.Common.{◌≡◌, ℕ, List, [], Result, cond, eqb, refl, sym, ◌∙◌}
 use Rattle.flowsheet.specs.Sheet.{sheet_of}
 use Rattle.flowsheet.proofs.Settled.{refusal_from as sheet_from}
-use Rattle.flowsheet.proofs.Told.{one_answer}
+use Rattle.flowsheet.proofs.Told.{by_number, one_answer}
 use Rattle.flowsheet.specs.declared.Refusal.TheVariants.{Short}
 use Rattle.planner.specs.Answer.{code_of as planner_code}
 use Rattle.planner.specs.declared.Refusal.{Refusal as planner_refusal}
@@ -33,7 +33,7 @@ from_number (Sheet _) = refl
 from_number _ = refl
 
 one_refusal : (r s : Refusal) → number_of r ≡ number_of s → r ≡ s
-one_refusal r s e = sym (from_number r) ∙ ap refusal_from e ∙ from_number s
+one_refusal = by_number number_of refusal_from from_number
 
 -- two answers that carry no value and have one code are equal
 pub one_code : (r s : Result (Unit {0}) Refusal) → code_of r ≡ code_of s → r ≡ s

@@ -48,7 +48,8 @@ made_by number s answer = told (λ t. record { number = 0; session = t }) (λ r.
 
 -- ---- edits
 
--- "a block over 12 units after the edit": 11 from add stream, 25 from the others
+-- "a block over 12 units": 11 from add stream; "after the edit": 25 from remove stream and weight. Adding or removing a unit makes no block larger
+-- (`not_large` of proofs/ShutOut), so the number that stands here for these two is never given.
 abbrev pub large_number : Edit → ℕ
 large_number (AddStream s) = 11
 large_number e = 25

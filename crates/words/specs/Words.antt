@@ -1,5 +1,6 @@
 -- Little-endian numbers in a row of bytes, over the width, rows of them, and the front of a row cleared.
--- Of numbers, of one written and of what is cleared callers go by the laws of proofs/Numbers.antt and proofs/Cleared.antt: they are shut.
+-- A number, its bytes, a row with a number written and one with its front cleared are shut: callers go by the laws of proofs/Numbers.antt and
+-- proofs/Cleared.antt.
 use Rattle.std.specs.Prelude.{List, [], ◌∷◌, ◌++◌, ℕ, zero, suc, ◌+◌, ◌*◌, ◌/◌, ◌%◌, get_or, drop, replicate}
 use Rattle.std.proofs.lemmas.List.Edits.{sets}
 
