@@ -12,6 +12,7 @@ use Rattle.rows.specs.Rows.{table}
 use Rattle.rows.proofs.Rows.{length-table, get_or-table}
 use Rattle.words.specs.Words.{number_at, bytes_of, flat}
 use Rattle.words.proofs.Numbers.{Bytes, length_bytes, number_of_bytes}
+use Rattle.words.proofs.Rows.{length-records}
 use Rattle.std.specs.Prelude.{Ok}
 use Rattle.flowsheet.specs.Answers.{reading}
 use Rattle.flowsheet.specs.Exactly.{GoodHeader, Known, Accepted, stream_in, stream_number_in}
@@ -82,11 +83,6 @@ record_stands f w none wide (x ∷ xs) base s (suc i) h =
     let others = stands_then (f x) (flat f xs) (base + w) (rw (wide x) refl) s in
     let there = record_stands f w none wide xs (base + w) others i (omega arith) in
     record { front = there.front; behind = there.behind; is = there.is; at = rw (mul-suc w i) (omega (arith, there.at)) }
-
-length-records : {A : Type 0} (f : A → List ℕ) (w : ℕ) → ((x : A) → length (f x) ≡ w) → (xs : List A) → length (flat f xs) ≡ w * length xs
-length-records f w wide [] = sym (mul-zero w)
-length-records f w wide (x ∷ xs) =
-    rw (length-append, wide x, length-records f w wide xs, mul-suc w (length xs)) (omega arith)
 
 table_is : {A : Type 0} (f : ℕ → A) (none : A) (xs : List A) → ((i : ℕ) → i < length xs → f i ≡ get_or xs i none) → table f (length xs) ≡ xs
 table_is f none xs same =

@@ -1,6 +1,6 @@
 -- An accepted image is the image of its units and streams, byte for byte; so two accepted images of one flowsheet are the same bytes.
 -- The image is cut into its records, and the bytes of each are those of the numbers that it holds. Assumes nothing.
-use mathlib.Core.List.{List, [], ◌∷◌, ◌++◌, append_assoc, append-nil}
+use mathlib.Core.List.{List, [], ◌∷◌, ◌++◌, append-nil}
 use mathlib.Core.Path.{◌≡◌, refl, sym, ap, ◌∙◌}
 use Prim.Native.Nat.{ℕ, zero, suc, ◌+◌, ◌*◌, ◌≤◌, ◌<◌}
 use native.Mathlib.Nat.{mul-zero, mul-suc}
@@ -10,6 +10,7 @@ use lib.Seq.{take-add, take_all, drop-drop}
 use Rattle.rows.specs.Rows.{table}
 use Rattle.words.specs.Words.{number_at, bytes_of, flat}
 use Rattle.words.proofs.Numbers.{Bytes, bytes_of_number}
+use Rattle.words.proofs.Rows.{flat_append}
 use Rattle.rows.proofs.Rows.{length-table}
 use Rattle.flowsheet.specs.Exactly.{GoodHeader, Accepted}
 use Rattle.flowsheet.specs.Image.{unit_count, stream_count, unit_at, unit_list, stream_held, stream_at, stream_list, answer_of, Reading, reading_of}
@@ -20,8 +21,7 @@ use Rattle.flowsheet.proofs.Held.{sheet_same}
 use Rattle.flowsheet.proofs.Records.{reading_accepted}
 
 flat_last : {A : Type 0} (f : A → List ℕ) (xs : List A) (x : A) → flat f (xs ++ (x ∷ [])) ≡ flat f xs ++ f x
-flat_last f [] x = append-nil (f x)
-flat_last f (y ∷ xs) x = rw (flat_last f xs x) (sym (append_assoc (f y) (flat f xs) (f x)))
+flat_last f xs x = flat_append f xs (x ∷ []) ∙ ap (λ (l : List ℕ). flat f xs ++ l) (append-nil (f x))
 
 -- a + b bytes from i on, in two parts
 cut : (a b i : ℕ) (l : List ℕ) → take (a + b) (drop i l) ≡ take a (drop i l) ++ take b (drop (i + a) l)

@@ -91,17 +91,23 @@ module _ (us : List ℕ) (ss : List Stream) (room : ℕ) where
   abbrev by : Bool → Bool → Planned
   by large long = planned_as (cond large 11 (cond long 0 12)) us ss
 
-  -- a plan: no block is over 12, the memory is long enough, and the plan is the flowsheet's
+  -- no refusal: no block is over 12, the memory is long enough, and the plan is the flowsheet's
+  pub zero_told : (planned_of us ss room).number ≡ 0
+      → (too_large us ss ≡ false) × (65536 ≤ room) × ((planned_of us ss room).plan ≡ plan_value (plan_of us ss))
+  unfolding planned_of plan_number
+  zero_told e = go (too_large us ss) (leb 65536 room) refl refl e
+    where
+      go : (large long : Bool) → too_large us ss ≡ large → leb 65536 room ≡ long → (by large long).number ≡ 0
+          → (too_large us ss ≡ false) × (65536 ≤ room) × ((by large long).plan ≡ plan_value (plan_of us ss))
+      go true long h r e = absurd (omega arith)
+      go false false h r e = absurd (omega arith)
+      go false true h r e = (h, leb-true 65536 room r, refl)
+
+  -- so it is with a plan
   pub plan_told : (plan : Plan) → planned (Ok plan) ≡ planned_of us ss room
       → (too_large us ss ≡ false) × (65536 ≤ room) × (plan ≡ plan_value (plan_of us ss))
-  unfolding planned_of plan_number
-  plan_told plan e = go (too_large us ss) (leb 65536 room) refl refl e
-    where
-      go : (large long : Bool) → too_large us ss ≡ large → leb 65536 room ≡ long → planned (Ok plan) ≡ by large long
-          → (too_large us ss ≡ false) × (65536 ≤ room) × (plan ≡ plan_value (plan_of us ss))
-      go true long h r e = absurd (let z : ◌≡◌ {A = ℕ} 0 11 = ap (λ (x : Planned). x.number) e in omega arith)
-      go false false h r e = absurd (let z : ◌≡◌ {A = ℕ} 0 12 = ap (λ (x : Planned). x.number) e in omega arith)
-      go false true h r e = (h, leb-true 65536 room r, ap (λ (x : Planned). x.plan) e)
+  plan_told plan e =
+      let r = zero_told (sym (ap (λ (x : Planned). x.number) e)) in (r.0, r.1, ap (λ (x : Planned). x.plan) e ∙ r.2)
 
   -- a refusal where the memory is long enough: some block is over 12
   pub large_told : 65536 ≤ room → (why : Refusal) → planned (Err why) ≡ planned_of us ss room → too_large us ss ≡ true

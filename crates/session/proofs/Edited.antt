@@ -24,7 +24,7 @@ use Rattle.session.specs.Edited.{stream_place, without, weighing, reweighted, un
 use Rattle.session.specs.Refused.{add_fault, ends_at, touched, fault_of}
 use Rattle.session.specs.declared.Edit.{Edit}
 use Rattle.session.specs.declared.Edit.TheVariants.{AddUnit, RemoveUnit, AddStream, RemoveStream, SetWeight}
-use Rattle.session.proofs.Refused.{add_room}
+use Rattle.session.proofs.Refused.{passed, failed, added_number}
 
 -- ---- a list with an item more, less or changed
 
@@ -193,26 +193,9 @@ other_streams {us} {ss} {ts} good few rows =
 
 -- ---- what an edit that isn't refused tells
 
--- of two tests, one after the other, that give a number where they fail, or where they hold
-passed : (t : Bool) (a k : ℕ) → cond t a (suc k) ≡ 0 → (t ≡ true) × (a ≡ 0)
-passed true a k e = (refl, e)
-passed false a k e = absurd (omega arith)
-
-failed : (t : Bool) (a k : ℕ) → cond t (suc k) a ≡ 0 → (t ≡ false) × (a ≡ 0)
-failed true a k e = absurd (omega arith)
-failed false a k e = (refl, e)
-
 both_none : (a b : ℕ) → first a b ≡ 0 → (a ≡ 0) × (b ≡ 0)
 both_none zero b e = (refl, e)
 both_none (suc a) b e = absurd (omega arith)
-
--- a number that may be added is in range and isn't held
-added_number : (n : ℕ) (held : Bool) (count most : ℕ) → add_fault n held count most ≡ 0 → (1 ≤ n) × (n ≤ 9999) × (held ≡ false)
-unfolding add_fault
-added_number n held count most e =
-    let r = passed (leb 1 n && leb n 9999) (cond held 21 (cond (ltb count most) 0 22)) 19 e in
-    let range = and_parts (leb 1 n) _ r.0 in
-    (leb-true 1 n range.0, leb-true n 9999 range.1, (failed held (cond (ltb count most) 0 22) 20 r.1).0)
 
 -- a weight that isn't refused is in range
 weight_light : (w : ℕ) → weight_fault w ≡ 0 → (1 ≤ w) × (w ≤ 1000)
@@ -312,7 +295,7 @@ module _ (f : Flowsheet) (good : GoodSheet f) where
       let a = added_number n (is_some (place_of f.units n)) (length f.units) 64 e in
       let c = (added_unit f n good e).0 in
       other_units good
-      (omega (arith, cut_length c, add_room n (is_some (place_of f.units n)) (length f.units) 64 e))
+      (omega (arith, cut_length c, a.3))
       (rows_inserted (λ (u : ℕ). u) (λ (u : ℕ). 0) n a.0 a.1 refl 0 f.units (omega (arith, a.0))
       (not_held (λ (u : ℕ). u) n 0 f.units a.2) (unit_rows f.units f.streams good))
       (λ s m. (mem_more s.source c, mem_more s.receiver c))
@@ -340,7 +323,7 @@ module _ (f : Flowsheet) (good : GoodSheet f) where
       let b = both_none (add_fault s.number held (length f.streams) 256) (stream_fault f.units s) e in
       let a = added_number s.number held (length f.streams) 256 b.0 in
       other_streams good
-      (omega (arith, cut_length (added_stream f s).0, add_room s.number held (length f.streams) 256 b.0))
+      (omega (arith, cut_length (added_stream f s).0, a.3))
       (rows_inserted (λ (s : Stream). s.number) (stream_fault f.units) s a.0 a.1 b.1 0 f.streams (omega (arith, a.0))
       (not_held (λ (s : Stream). s.number) s.number no_stream f.streams a.2) (stream_rows f.units f.streams good))
 

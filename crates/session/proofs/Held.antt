@@ -15,9 +15,10 @@ use Rattle.std.proofs.lemmas.Bool.{and_parts}
 use Rattle.flowsheet.proofs.Exact.{is_accepted}
 use Rattle.flowsheet.proofs.Good.{accepted_good, good_exact}
 use Rattle.flowsheet.proofs.ReadBack.{image_read}
-use Rattle.planner.specs.Answer.{plan_number, planned_as, planned_of, planned_from, planned_image, work_after}
+use Rattle.planner.specs.Answer.{plan_number, planned_of, planned_from, planned_image, work_after}
 use Rattle.planner.specs.Plan.{any_over, too_large, plan_of, block_plan, blocks_of}
 use Rattle.planner.specs.declared.Plan.{Plan}
+use Rattle.planner.proofs.Answers.{zero_told}
 use Rattle.planner.proofs.Kept.{plan_none}
 use Rattle.session.specs.Answer.{Made, kept_or, large_number, edit_number, made_of, Editing, opened_of, Opening}
 use Rattle.session.specs.Edited.{stream_place, edited}
@@ -145,18 +146,7 @@ module _ (new old : Session) where
 record Plannable (image : List ℕ) (room : ℕ) : Type 0 where
   read : answer_of image ≡ 0
   small : too_large (unit_list image) (stream_list image) ≡ false
-  memory : leb 65536 room ≡ true
-
-planned_zero : (us : List ℕ) (ss : List Stream) (room : ℕ) → (planned_of us ss room).number ≡ 0
-    → (too_large us ss ≡ false) × (leb 65536 room ≡ true)
-unfolding planned_of plan_number
-planned_zero us ss room e = go (too_large us ss) (leb 65536 room) refl refl e
-  where
-    go : (large long : Bool) → too_large us ss ≡ large → leb 65536 room ≡ long
-        → (planned_as (cond large 11 (cond long 0 12)) us ss).number ≡ 0 → (too_large us ss ≡ false) × (leb 65536 room ≡ true)
-    go true long l m e = absurd (omega arith)
-    go false true l m e = (l, m)
-    go false false l m e = absurd (omega arith)
+  memory : 65536 ≤ room
 
 plannable : (image : List ℕ) (room : ℕ) → (planned_image image room).number ≡ 0 → Plannable image room
 unfolding planned_image
@@ -164,13 +154,13 @@ plannable image room e = go (answer_of image) refl e
   where
     go : (k : ℕ) → answer_of image ≡ k → (planned_from k image room).number ≡ 0 → Plannable image room
     go zero a e =
-        let p = planned_zero (unit_list image) (stream_list image) room e in
+        let p = zero_told (unit_list image) (stream_list image) room e in
         record { read = a; small = p.0; memory = p.1 }
     go (suc k) a e = absurd (omega arith)
 
 plannable_zero : (image : List ℕ) (room : ℕ) → Plannable image room → (planned_image image room).number ≡ 0
 unfolding planned_image planned_of plan_number
-plannable_zero image room p = rw (p.read, p.small, p.memory)
+plannable_zero image room p = rw (p.read, p.small, le-leb 65536 room p.memory)
 
 -- the session of an image
 abbrev pub session_in : List ℕ → Session
@@ -206,7 +196,7 @@ by_opening {s} h t work long =
     let read = image_read s.sheet.units s.sheet.streams h.good in
     let zero_is : (planned_image image (length work)).number ≡ 0 =
     plannable_zero image (length work)
-    (record { read = read.0; small = rw (read.1, read.2) h.small; memory = le-leb 65536 (length work) long }) in
+    (record { read = read.0; small = rw (read.1, read.2) h.small; memory = long }) in
     let made : opened_of t image (length work) ≡ record { number = 0; session = s } =
     rw (zero_is, read.1, read.2) (ap (λ (x : Session). record { number = 0; session = x }) (sym (held_is h))) in
     record {

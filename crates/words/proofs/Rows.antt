@@ -1,4 +1,4 @@
--- Rows of numbers of 16 bits, stored one after the other. Assumes nothing.
+-- Records and numbers of 16 bits, stored one after the other. Assumes nothing.
 use mathlib.Core.List.{List, [], ◌∷◌, ◌++◌, append_assoc, append-nil}
 use mathlib.Core.Path.{◌≡◌, refl, sym}
 use Prim.Native.Nat.{ℕ, ◌+◌, ◌*◌, ◌<◌}
@@ -14,9 +14,14 @@ pub flat_append : {A : Type 0} (f : A → List ℕ) (xs ys : List A) → flat f 
 flat_append f [] ys = refl
 flat_append f (x ∷ xs) ys = rw (flat_append f xs ys) (sym (append_assoc (f x) (flat f xs) (flat f ys)))
 
+-- records of w bytes each, one after the other
+pub length-records : {A : Type 0} (f : A → List ℕ) (w : ℕ) → ((x : A) → length (f x) ≡ w) → (xs : List A) → length (flat f xs) ≡ w * length xs
+length-records f w wide [] = sym (mul-zero w)
+length-records f w wide (x ∷ xs) =
+    rw (length-append, wide x, length-records f w wide xs, mul-suc w (length xs)) (omega arith)
+
 pub length-flat : (k : ℕ) (xs : List ℕ) → length (flat (bytes_of k) xs) ≡ k * length xs
-length-flat k [] = sym (mul-zero k)
-length-flat k (x ∷ xs) = rw (length-append, length_bytes k x, length-flat k xs, mul-suc k (length xs)) (omega arith)
+length-flat k xs = length-records (bytes_of k) k (length_bytes k) xs
 
 -- two rows of numbers
 pub sets_rows : (l : List ℕ) (at : ℕ) (xs ys : List ℕ) → with_numbers (with_numbers l at xs) (at + 2 * length xs) ys ≡ with_numbers l at (xs ++ ys)
