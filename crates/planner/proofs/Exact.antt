@@ -9,6 +9,7 @@ use Prim.Native.Nat.{ℕ, zero, suc, ◌≤◌, ◌<◌}
 use native.Mathlib.Decide.{dec_lt}
 use native.Mathlib.Omega.{arith}
 use borrow.Author.Tests.{le-leb, lt-leb}
+use Rattle.std.proofs.lemmas.Bool.{false_from_ne_true}
 use lib.ListN.{length}
 use Rattle.blocks.proofs.Places.{rising_unique}
 use Rattle.flowsheet.specs.Exactly.{Refusal, Accepted}
@@ -83,11 +84,7 @@ module _ (image : List ℕ) where
       go false e = inr (λ l. true≢false (sym ((large_exact (image_good a)).1 l) ∙ e))
 
   is_small : Plannable image → too_large us ss ≡ false
-  is_small p = go (too_large us ss) refl
-    where
-      go : (t : Bool) → too_large us ss ≡ t → t ≡ false
-      go true e = absurd (p.small ((large_exact (image_good p.accepted)).0 e))
-      go false e = refl
+  is_small p = false_from_ne_true (too_large us ss) (λ e. p.small ((large_exact (image_good p.accepted)).0 e))
 
   module _ (buffer room : ℕ) where
     -- the number that planning gives

@@ -8,6 +8,7 @@ use mathlib.Core.Logic.{◌⊎◌, inl, inr, ⊎_elim, ◌↔◌}
 use mathlib.Core.Path.{◌≡◌, refl, sym, ap, ap₂, ◌∙◌, subst}
 use Prim.Native.Nat.{ℕ, ◌≤◌}
 use native.Mathlib.Omega.{arith}
+use Rattle.std.proofs.lemmas.Bool.{true_from_ne_false}
 use lib.ListN.{length, replicate}
 use Rattle.blocks.specs.Blocks.{members_of}
 use Rattle.blocks.specs.Links.{Path, link, onward, SameBlock}
@@ -311,15 +312,12 @@ small_stays {us} {vs} {ss} {ts} good after feeds known small = small_blocks vs t
 -- Taking a stream away makes no block larger.
 pub large_less : {us : List ℕ} (front back : List Stream) (s : Stream) → Good us (front ++ (s ∷ back)) → Good us (front ++ back)
     → too_large us (front ++ back) ≡ true → too_large us (front ++ (s ∷ back)) ≡ true
-large_less {us} front back s with_s without e = go (too_large us (front ++ (s ∷ back))) refl
-  where
-    go : (t : Bool) → too_large us (front ++ (s ∷ back)) ≡ t → t ≡ true
-    go true h = refl
-    go false h =
-        absurd
-        (true≢false
-        (sym e
-        ∙ small_stays with_s without (feeds_with front back s) (λ c k. inr (k.some.0, k.some.1, k.known k.some.0 k.some.1)) h))
+large_less {us} front back s with_s without e =
+    true_from_ne_false (too_large us (front ++ (s ∷ back)))
+    (λ h.
+    true≢false
+    (sym e
+    ∙ small_stays with_s without (feeds_with front back s) (λ c k. inr (k.some.0, k.some.1, k.known k.some.0 k.some.1)) h))
 
 -- A unit that no stream leaves or enters has no part in the blocks' sizes.
 pub large_unit : (n : ℕ) {ss : List Stream} → NoneAt ss n → (front back : List ℕ) → Good (front ++ back) ss

@@ -8,6 +8,7 @@ use Prim.Native.Nat.{ℕ, ◌+◌, ◌*◌, ◌<◌, ◌≤◌}
 use native.Mathlib.Omega.{arith}
 use borrow.Author.Tests.{ltb-false, ltb-true}
 use lib.Dec.{ltb}
+use Rattle.std.proofs.lemmas.Bool.{false_from_ne_true}
 use lib.ListN.{length, get_or, length-append, length-map}
 use Rattle.blocks.specs.Blocks.{members_of, counts_of}
 use Rattle.blocks.specs.Links.{Link, SameBlock}
@@ -366,8 +367,5 @@ block_large us ss e = over_some (blocks_of us ss) e
 -- And where each has at most 12, none is.
 pub small_blocks : (us : List ℕ) (ss : List Stream) → ((b : List ℕ) → Memᴰ b (blocks_of us ss) → length b ≤ 12)
     → too_large us ss ≡ false
-small_blocks us ss f = go (too_large us ss) refl
-  where
-    go : (t : Bool) → too_large us ss ≡ t → t ≡ false
-    go true e = let r = block_large us ss e in absurd (omega (arith, f r.0 r.1, r.2))
-    go false e = refl
+small_blocks us ss f =
+    false_from_ne_true (too_large us ss) (λ e. let r = block_large us ss e in absurd (omega (arith, f r.0 r.1, r.2)))

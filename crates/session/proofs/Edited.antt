@@ -1,9 +1,10 @@
 -- What an edit makes of a good flowsheet that doesn't refuse it: a good one, whose units or streams are those of before with one more, one less or
 -- one changed; and unless a stream is added no block becomes too large. Assumes nothing.
 use Rattle.std.proofs.lemmas.Bool.{and_parts}
-use Rattle.std.proofs.Common.{◌≡◌, ℕ, zero, suc, ◌≤◌, ◌<◌, Bool, true, false, true≢false, cond, not, ◌&&◌, ◌||◌, List, ◌∷◌, ◌++◌, Option, Some, None, is_some, position, insert, length, get_or, set, take, drop, eqb, leb, ltb, ◌⊎◌, inl, inr, ⊎_elim, refl, sym, ap, ◌∙◌, subst, subst₂, arith, eq-eqb, eqb-true, leb-true, ltb-false, take-append-drop, drop-cons, length-append, add-one}
+use Rattle.std.proofs.Common.{◌≡◌, ℕ, zero, suc, ◌≤◌, ◌<◌, Bool, true, false, true≢false, cond, not, ◌&&◌, List, ◌∷◌, ◌++◌, Option, Some, None, is_some, position, insert, length, get_or, set, take, drop, eqb, leb, ltb, ◌⊎◌, inl, inr, ⊎_elim, refl, sym, ap, ◌∙◌, subst, subst₂, arith, eq-eqb, eqb-true, leb-true, ltb-false, take-append-drop, drop-cons, length-append, add-one}
 use mathlib.Core.List.{Memᴰ}
 use Rattle.std.proofs.lemmas.Bool.{cases_order, false_from_ne_true}
+use Rattle.std.proofs.Math.Bool.{or-true}
 use Rattle.std.proofs.lemmas.List.{take-set, drop-set}
 use Rattle.std.proofs.lemmas.List.Folds.{list_any_at}
 use Rattle.std.proofs.lemmas.List.Quantifiers.{position-Some}
@@ -212,14 +213,10 @@ none_at_new {us} n good low new t m =
     not_end e (inl z) h = omega arith
     not_end e (inr m) h = new e m h
 
-or_true : (t : Bool) → (t || true) ≡ true
-or_true true = refl
-or_true false = refl
-
 none_at_untouched : (ss : List Stream) (n : ℕ) → touched ss n ≡ false → NoneAt ss n
 unfolding touched
 none_at_untouched ss n e t m =
-    (λ h. no_end (rw (eq-eqb t.source n h)), λ h. no_end (rw (eq-eqb t.receiver n h) (or_true (eqb t.source n))))
+    (λ h. no_end (rw (eq-eqb t.source n h)), λ h. no_end (rw (eq-eqb t.receiver n h) (or-true (eqb t.source n))))
   where
     no_end : ends_at n t ≡ true → ⊥
     no_end h =

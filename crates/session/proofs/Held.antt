@@ -11,7 +11,7 @@ use Rattle.flowsheet.specs.Sheet.{sheet_of, place_of, known_end, weight_fault, s
 use Rattle.flowsheet.specs.Written.{image_of}
 use Rattle.flowsheet.specs.declared.Flowsheet.{Flowsheet}
 use Rattle.flowsheet.specs.declared.Stream.{Stream}
-use Rattle.std.proofs.lemmas.Bool.{and_parts}
+use Rattle.std.proofs.lemmas.Bool.{and_parts, not-true}
 use Rattle.flowsheet.proofs.Exact.{is_accepted}
 use Rattle.flowsheet.proofs.Good.{accepted_good, good_exact}
 use Rattle.flowsheet.proofs.ReadBack.{image_read}
@@ -51,10 +51,6 @@ same_plan_is p q = (one, both)
           (bytes_decides p.torn q.torn).1 (ap (λ (x : Plan). x.torn) e),
         )
 
-not_true : (b : Bool) → not b ≡ true → b ≡ false
-not_true true e = sym e
-not_true false e = refl
-
 -- The test of a session tells exactly whether calls could have left it.
 pub held_exact : (s : Session) → (is_held s ≡ true) ↔ Held s
 unfolding is_held
@@ -74,7 +70,7 @@ held_exact s = (holds, tested)
         let plan = and_parts (not (too_large us ss)) _ streams.1 in
         record {
           good = (good_exact us ss (leb-true (length us) 64 units.0) (leb-true (length ss) 256 streams.0)).0 tables.0;
-          small = not_true (too_large us ss) plan.0;
+          small = not-true (too_large us ss) plan.0;
           plan = (same_plan_is s.plan (plan_for s.sheet)).0 plan.1;
         }
 
