@@ -1,10 +1,11 @@
 -- The front of a row cleared, a byte at a time; what lies beyond it is all that counts of the row before. Assumes nothing.
 use mathlib.Core.List.{List, ◌++◌}
-use mathlib.Core.Path.{◌≡◌, sym, ap, ◌∙◌}
+use mathlib.Core.Path.{◌≡◌, refl, sym, ap, ◌∙◌}
 use Prim.Native.Nat.{ℕ, ◌+◌, ◌-◌, ◌≤◌}
 use native.Mathlib.Omega.{arith}
-use lib.ListN.{length, drop, replicate, length-append, length-replicate, length-drop}
+use lib.ListN.{length, take, drop, replicate, length-append, length-replicate, length-drop}
 use lib.Seq.{drop-append-add, drop-drop}
+use Rattle.std.proofs.Common.{length-take-le}
 use Rattle.words.specs.Words.{cleared}
 
 -- only what lies beyond the cleared part counts
@@ -25,3 +26,9 @@ drop-cleared l n k h =
     ∙ drop-append-add (replicate n 0) (drop n l) (k - n)
     ∙ drop-drop (k - n) n l
     ∙ ap (λ (j : ℕ). drop j l) f
+
+-- what a front filled with zeros and the rest behind it are: its length may be named in another way than the number of bytes to be cleared
+pub filled_front : {front : List ℕ} (row : List ℕ) (count n : ℕ) → count ≤ length row → n ≡ count → front ≡ replicate (length (take n row)) 0 → front ++ drop n row ≡ cleared row count
+unfolding cleared
+filled_front row count n h e f =
+    rw (f, e, length-take-le count row h) refl
