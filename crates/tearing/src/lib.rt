@@ -47,38 +47,23 @@ fn half(weights: &Weights, from: usize, to: usize, sums: &mut [u32; 768])
 }
 
 // What the streams between the places of a block weigh: for each set of the places and each place, those from the set into the place together.
-#[derive(Drop)]
-struct Flows {
+// The tables are lent: a struct that held them would be copied as it is handed back, which takes longer than a small block's order.
+#[derive(Clone, Copy)]
+struct Flows<'a> {
     // of the sets of the low six places, and of the high six
-    low: [u32; 768],
-    high: [u32; 768],
+    low: &'a [u32; 768],
+    high: &'a [u32; 768],
     places: usize,
     ghost few: { places ≤ 12 },
-    ghost sums: { Sums (between low high) places low high },
+    ghost sums: { Sums (between low.now high.now) places low.now high.now },
 }
 
-impl Flows {
-    // What the streams between the places below n weigh.
-    fn of(weights: &Weights, n: usize) -> Flows
-        requires { n ≤ 12 }
-        ensures places { result.places ≡ n }
-        ensures sums { Sums (weights_of weights.now.row) n result.low result.high }
-    {
-        let mut flows = Flows {
-            low: [0; 768],
-            high: [0; 768],
-            places: n,
-        };
-        half(weights, 0, n.min(6), &mut flows.low);
-        half(weights, 6, n, &mut flows.high);
-        flows
-    }
-
+impl Flows<'_> {
     // What an order of a set tears at least that begins with u: the streams into u from the set, and the least of the rest.
     fn begun(&self, work: &[u8], set: u64, u: usize) -> u32
         requires within { (u < 12) × (set < 4096) × (bit u set ≡ 1) × (4 * set + 4 ≤ length work.now) }
-        requires fits { via self.now.low self.now.high work.now set u < 2 ^ 32 }
-        ensures { result ≡ via self.now.low self.now.high work.now set u }
+        requires fits { via self.now.low.now self.now.high.now work.now set u < 2 ^ 32 }
+        ensures { result ≡ via self.now.low.now self.now.high.now work.now set u }
     {
         let whole = set as usize;
         let rest = (set - sets::one(u)) as usize;
@@ -87,9 +72,9 @@ impl Flows {
 
     // The first place of a set with which an order of the set begins that tears least, and what that order tears.
     fn lightest(&self, work: &[u8], set: u64) -> (usize, u32)
-        requires { Room (via self.now.low self.now.high work.now set) self.now.places set work.now }
-        ensures first { First (via self.now.low self.now.high work.now set) self.now.places set result.0 }
-        ensures torn { result.1 ≡ via self.now.low self.now.high work.now set result.0 }
+        requires { Room (via self.now.low.now self.now.high.now work.now set) self.now.places set work.now }
+        ensures first { First (via self.now.low.now self.now.high.now work.now set) self.now.places set result.0 }
+        ensures torn { result.1 ≡ via self.now.low.now self.now.high.now work.now set result.0 }
     {
         // more than any order tears: a set has a member, so it never stays
         let mut lightest: u64 = 4294967296;
@@ -109,7 +94,7 @@ impl Flows {
     // Fills the table, in the sets' order. What lies beyond its four bytes a set stays.
     fn fill(&self, work: &mut [u8])
         requires { 4 * 2 ^ self.now.places ≤ length work.old }
-        ensures filled { Filled (between self.now.low self.now.high) self.now.places work.new (2 ^ self.now.places) }
+        ensures filled { Filled (between self.now.low.now self.now.high.now) self.now.places work.new (2 ^ self.now.places) }
         ensures beyond { drop (4 * 2 ^ self.now.places) work.new ≡ drop (4 * 2 ^ self.now.places) work.old }
     {
         0u32.put(work, 0);
@@ -123,8 +108,8 @@ impl Flows {
     // Reads the best order off the table once it is filled.
     fn read_off(&self, work: &[u8]) -> Row<u8, 12>
         requires room { 4 * 2 ^ self.now.places ≤ length work.now }
-        requires filled { Filled (between self.now.low self.now.high) self.now.places work.now (2 ^ self.now.places) }
-        ensures { result ≡ best (between self.now.low self.now.high) self.now.places }
+        requires filled { Filled (between self.now.low.now self.now.high.now) self.now.places work.now (2 ^ self.now.places) }
+        ensures { result ≡ best (between self.now.low.now self.now.high.now) self.now.places }
     {
         let mut order = Row::new();
         let mut left = sets::one(self.places) - 1;
@@ -143,7 +128,15 @@ pub fn order(weights: &Weights, n: usize, work: &mut [u8; 65536]) -> Row<u8, 12>
     requires { n ≤ 12 }
     ensures { Ordered weights.now.row n work.old work.new result }
 {
-    let flows = Flows::of(weights, n);
+    let mut low = [0; 768];
+    half(weights, 0, n.min(6), &mut low);
+    let mut high = [0; 768];
+    half(weights, 6, n, &mut high);
+    let flows = Flows {
+        low: &low,
+        high: &high,
+        places: n,
+    };
     flows.fill(work);
     let order = flows.read_off(work);
     words::clear_front(work, 4 * sets::one(n) as usize);

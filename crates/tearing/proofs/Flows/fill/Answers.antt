@@ -15,25 +15,25 @@ loop-set-init c =
     let l = c.args.work.now in
     let e = c.put.ensures in (
       ap (λ (k : List ℕ). drop (4 * 2 ^ f.places) k) e ∙ drop_with 4 l 0 0 (4 * 2 ^ f.places) (omega (arith, pow_pos f.places)),
-      rw e (filled_first (between f.low f.high) f.places l (omega (arith, pow_pos f.places, c.requires))),
+      rw e (filled_first (between f.low.now f.high.now) f.places l (omega (arith, pow_pos f.places, c.requires))),
     )
 
 pub lightest-torn-requires : goal.lightest-torn-requires
 lightest-torn-requires c =
     let f = c.args.self.now in
     let l = c.loop-set in
-    room _ f.places f.low f.high l.work f.sums l.set (omega (arith, c.one-end.ensures)) l.invariant.1 (omega arith) (omega (arith, c.requires))
+    room _ f.places f.low.now f.high.now l.work f.sums l.set (omega (arith, c.one-end.ensures)) l.invariant.1 (omega arith) (omega (arith, c.requires))
 
 pub loop-set-preserved : goal.loop-set-preserved
 loop-set-preserved c =
     let f = c.args.self.now in
-    let W : ℕ → ℕ → ℕ = between f.low f.high in
+    let W : ℕ → ℕ → ℕ = between f.low.now f.high.now in
     let l = c.loop-set in
     let x = c.lightest-torn.result.1 in
     let h : l.set < 2 ^ f.places = omega (arith, c.one-end.ensures) in
     let r : 4 * l.set + 4 ≤ length l.work = omega (arith, c.requires) in
     let e = c.put-in-loop-set.ensures in
-    let b = rw (← c.lightest-torn.ensures.torn) at (lowest_least W f.places f.low f.high l.work f.sums l.set h l.invariant.1 (first_lowest c.lightest-torn.ensures.first)) in (
+    let b = rw (← c.lightest-torn.ensures.torn) at (lowest_least W f.places f.low.now f.high.now l.work f.sums l.set h l.invariant.1 (first_lowest c.lightest-torn.ensures.first)) in (
       ap (λ (k : List ℕ). drop (4 * 2 ^ f.places) k) e ∙ drop_with 4 l.work (4 * l.set) x (4 * 2 ^ f.places) (omega arith) ∙ l.invariant.0,
       rw e (filled_more W f.places l.work l.set x l.invariant.1 b (omega (arith, least_bound W f.places l.set b, f.sums.small)) r),
     )

@@ -15,7 +15,7 @@ loop-init c =
       omega (arith, e, pow_pos f.places),
       omega (arith, ap length z),
       rw e (omega (arith, members-all f.places)),
-      rw (e, z) (goes_start (between f.low f.high) f.places),
+      rw (e, z) (goes_start (between f.low.now f.high.now) f.places),
     )
 
 pub lightest-u-requires : goal.lightest-u-requires
@@ -23,7 +23,7 @@ lightest-u-requires c =
     let f = c.args.self.now in
     let l = c.loop in
     let i = l.invariant in
-    room _ f.places f.low f.high c.args.work.now f.sums l.left i.0 (λ j h. c.requires.filled j (omega (arith, i.0)))
+    room _ f.places f.low.now f.high.now c.args.work.now f.sums l.left i.0 (λ j h. c.requires.filled j (omega (arith, i.0)))
     (members_pos f.places l.left (omega (arith, i.2))) c.requires.room
 
 pub overflow_sub-left-in-loop : goal.overflow_sub-left-in-loop
@@ -44,11 +44,11 @@ loop-preserved c =
       omega (arith, i.0),
       ap length p ∙ length-append l.order (u ∷ []) ∙ omega (arith, i.1),
       rw e (omega (arith, i.2, k)),
-      rw (e, p) (goes_more (between f.low f.high) f.places f.low f.high c.args.work.now l.left l.order u i.0 f.sums c.requires.filled x.ensures.first i.3),
+      rw (e, p) (goes_more (between f.low.now f.high.now) f.places f.low.now f.high.now c.args.work.now l.left l.order u i.0 f.sums c.requires.filled x.ensures.first i.3),
     )
 
 pub returns : goal.returns
 returns c =
     let f = c.args.self.now in
     let l = c.loop in
-    goes_end (between f.low f.high) f.places l.left l.order (omega (arith, l.invariant.2)) l.invariant.3
+    goes_end (between f.low.now f.high.now) f.places l.left l.order (omega (arith, l.invariant.2)) l.invariant.3

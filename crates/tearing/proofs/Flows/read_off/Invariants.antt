@@ -11,4 +11,4 @@ invariant-loop l =
     (l.left < 2 ^ l.self.places)
     × (length l.order ≡ l.counter)
     × (length (members l.self.places l.left) + l.counter ≡ l.self.places)
-    × Goes (between l.self.low l.self.high) l.self.places l.left l.order
+    × Goes (between l.self.low.now l.self.high.now) l.self.places l.left l.order
