@@ -9,6 +9,7 @@ ghost use Rattle.flowsheet.specs.Good.{GoodSheet, rows_good, is_good};
 ghost use Rattle.flowsheet.specs.Image.{header_of, laid_out, stream_held, fault_at, table_read, reading_of};
 
 use rows::{Blank, Row};
+use std::marker::Model;
 use words::Word;
 
 // A stream: its number, the unit that it leaves and the unit that it enters, and its weight. An end is 0 for outside, as in the image and in
@@ -45,6 +46,17 @@ pub type Streams = Row<Stream, 256>;
 pub struct Flowsheet {
     pub units: Units,
     pub streams: Streams,
+}
+
+// A clause sees the two tables as they stand. That they are a value of their own lets a flowsheet be used again after it was handed on by value.
+impl Model for Flowsheet {
+    ghost use Rattle.flowsheet.specs.Tables.{Tables};
+
+    ghost Value = { Tables };
+
+    ghost view = { λ sheet. record { units = sheet.units; streams = sheet.streams } };
+
+    ghost inverse = { λ tables. record { units = tables.units; streams = tables.streams } };
 }
 
 // Why an image is refused.

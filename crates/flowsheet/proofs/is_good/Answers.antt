@@ -11,7 +11,7 @@ returns-then-all_good c =
     let tested : c.all_good-then-all_good.result ≡ is_good c.args.sheet.now.units c.args.sheet.now.streams = rw units (cc) in
     record {
       tested = tested;
-      exactly = rw tested (good_exact _ _ c.items-units.ensures.few c.items-streams.ensures.few);
+      exactly = rw (tested, ← c.sheet.view_is) (good_exact _ _ c.items-units.ensures.few c.items-streams.ensures.few);
     }
 
 pub returns-else-all_good : goal.returns-else-all_good
@@ -21,5 +21,5 @@ returns-else-all_good c =
     let tested : c.all_good.result ≡ is_good c.args.sheet.now.units c.args.sheet.now.streams = rw units (cc) in
     record {
       tested = tested;
-      exactly = rw tested (good_exact _ _ c.items-units.ensures.few c.items-streams.ensures.few);
+      exactly = rw (tested, ← c.sheet.view_is) (good_exact _ _ c.items-units.ensures.few c.items-streams.ensures.few);
     }

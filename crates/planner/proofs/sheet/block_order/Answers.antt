@@ -9,5 +9,6 @@ pub units_in-block-requires : goal.units_in-block-requires
 units_in-block-requires c =
     let r = c.args.reach.now in
     let m : List ℕ = members_of r.rows r.places c.args.place in
-    rw (c.items-2.ensures.items, c.members-members.ensures, c.items.ensures.items, ← c.requires.places.0)
+    let places = rw (← c.sheet.view_is) at c.requires.places.0 in
+    rw (c.items-2.ensures.items, c.members-members.ensures, c.items.ensures.items, ← places)
     (omega (arith, c.requires.small), λ k h. members_below r.rows r.places c.args.place (get_or m k 0) (mem_at m k 0 h))

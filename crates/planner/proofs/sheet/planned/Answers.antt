@@ -13,13 +13,13 @@ pub plan_blocks-requires : goal.plan_blocks-requires
 plan_blocks-requires c =
     let reach = c.of-reach.ensures in
     rw c.items-3.ensures.items
-    (sorted c.args.sheet.now c.requires c.of-reach.result (reach.rows ∙ ap reach_of c.links_of.ensures) (rw c.items.ensures.items at reach.places)
+    (sorted c.args.sheet.now c.requires c.of-reach.result (reach.rows ∙ ap reach_of c.links_of.ensures) (rw (← c.sheet.view_is) (rw c.items.ensures.items at reach.places))
     c.order-order.result c.order-order.ensures (rw c.items-2.ensures.items at (sym c.any_large.ensures ∙ c.if-any_large.false)))
 
 pub returns-clause-answer : goal.returns-clause-answer
 returns-clause-answer c =
     let reach = c.of-reach.ensures in
-    planned_made c.args.sheet.now c.requires c.of-reach.result (reach.rows ∙ ap reach_of c.links_of.ensures) (rw c.items.ensures.items at reach.places)
+    planned_made c.args.sheet.now c.requires c.of-reach.result (reach.rows ∙ ap reach_of c.links_of.ensures) (rw (← c.sheet.view_is) (rw c.items.ensures.items at reach.places))
     c.order-order.result c.order-order.ensures (length c.args.work.now) (rw c.items-2.ensures.items at (sym c.any_large.ensures ∙ c.if-any_large.false))
     (omega arith) c.plan_blocks.result c.plan_blocks.ensures
 
