@@ -1,4 +1,5 @@
 -- The definitions that the contracts of `planner` and of the crates above it cite.
+pub mod PlanTables
 pub mod Links
 pub mod Plan
 pub mod Tables

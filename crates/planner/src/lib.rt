@@ -16,6 +16,7 @@ pub use planning::{plan_image, plan_read};
 use rows::Row;
 pub use screen::part;
 pub use sheet::{clear_work, no_plan, plan_of};
+use std::marker::Model;
 
 // At most 256 numbers of 16 bits.
 pub type Numbers = Row<u16, 256>;
@@ -26,6 +27,17 @@ pub struct Plan {
     pub blocks: Numbers,
     pub order: Numbers,
     pub torn: Numbers,
+}
+
+// A clause sees the three tables as they stand. That they are a value of their own lets a plan be used again after it was handed on by value.
+impl Model for Plan {
+    ghost use Rattle.planner.specs.PlanTables.{PlanTables};
+
+    ghost Value = { PlanTables };
+
+    ghost view = { λ plan. record { blocks = plan.blocks; order = plan.order; torn = plan.torn } };
+
+    ghost inverse = { λ tables. record { blocks = tables.blocks; order = tables.order; torn = tables.torn } };
 }
 
 // What a screen asks for of a block: its units, or its torn streams.
