@@ -1,4 +1,4 @@
-/* The same planning in plain C, written from the rules (docs/RULES.md): what the library's planning is timed against. */
+/* The same planning in plain C. */
 #include "plain.h"
 
 #include <string.h>
