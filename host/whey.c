@@ -218,57 +218,76 @@ static int step(struct stream *s)
     return unsettled;
 }
 
-/* Calculates the units in the plan's order and steps all that is torn, until a pass in which every value is settled. */
-static int converge(const uint16_t *order, int count, const uint16_t *torn, int torn_count)
+/* A block of the plan: its units in order and its torn streams, as parts of the order table and of the torn table. */
+struct block {
+    const uint16_t *order, *torn;
+    int units, torn_streams;
+};
+
+static struct block block_at(const uint16_t *plan, int place)
+{
+    const uint16_t *record = plan + plan[4] / 2 + 4 * place;
+    return (struct block){plan + plan[5] / 2 + record[0], plan + plan[6] / 2 + record[2], record[1], record[3]};
+}
+
+static void print_block(struct block block)
+{
+    for (int i = 0; i < block.units; i++)
+        printf("%s %u %s", i ? " >" : "", block.order[i], unit_of(block.order[i])->name);
+    printf("\n");
+    for (int i = 0; i < block.torn_streams; i++) {
+        const struct stream *s = stream_of(block.torn[i]);
+        printf("    torn: %u %s, %u > %u\n", s->number, s->name, s->source, s->receiver);
+    }
+}
+
+/* Calculates a block's units in order and steps all that it tears, until a pass in which every value is settled; gives which pass that is. It comes:
+   each pass before it moves a value, and each value moves at most LIMIT times. */
+static int converge(struct block block)
 {
     int passes = 0, unsettled = 1;
-    for (int i = 0; i < torn_count; i++)
-        stream_of(torn[i])->torn = 1;
+    for (int i = 0; i < block.torn_streams; i++)
+        stream_of(block.torn[i])->torn = 1;
     while (unsettled) {
         unsettled = 0;
         passes++;
-        for (int i = 0; i < count; i++)
-            calculate(unit_of(order[i]));
-        for (int i = 0; i < torn_count; i++)
-            unsettled += step(stream_of(torn[i]));
+        for (int i = 0; i < block.units; i++)
+            calculate(unit_of(block.order[i]));
+        for (int i = 0; i < block.torn_streams; i++)
+            unsettled += step(stream_of(block.torn[i]));
     }
     return passes;
 }
 
-/* Block by block, as the plan's tables have them: a block's record says which part of the order table is its units, and which of the torn table
-   its torn streams. */
 static void converge_blocks(const uint16_t *plan)
 {
     printf("%d units, %d streams: %u blocks, %u torn\n", UNITS, STREAMS, plan[2], plan[3]);
-    for (int block = 0; block < plan[2]; block++) {
-        const uint16_t *record = plan + plan[4] / 2 + 4 * block;
-        const uint16_t *order = plan + plan[5] / 2 + record[0], *torn = plan + plan[6] / 2 + record[2];
-        int passes = converge(order, record[1], torn, record[3]);
-        printf("%d:", block + 1);
-        for (int i = 0; i < record[1]; i++)
-            printf("%s %u %s", i ? " >" : "", order[i], unit_of(order[i])->name);
-        printf("\n");
-        for (int i = 0; i < record[3]; i++)
-            printf("    torn: %u %s, %u > %u\n", torn[i], stream_of(torn[i])->name, stream_of(torn[i])->source, stream_of(torn[i])->receiver);
-        if (record[3])
+    for (int place = 0; place < plan[2]; place++) {
+        struct block block = block_at(plan, place);
+        printf("%d:", place + 1);
+        print_block(block);
+        int passes = converge(block);
+        if (block.torn_streams)
             printf("    settled at pass %d\n", passes);
     }
 }
 
 /* ------------------------------------------------------------------------------------------------------------ the balance */
 
-/* Prints what goes through, component by component, and where it isn't what leaves, both; gives whether all of it is, but for `closing` of it. */
+/* Prints what goes through, component by component; where other than that leaves, both. Gives whether all of it leaves, but for `closing` of it. */
 static int closes(const char *name, const double in[PARTS], const double out[PARTS])
 {
-    int open = 0;
+    int all = 1;
     printf("%-16s", name);
     for (int part = 0; part < PARTS; part++) {
-        int apart = !(fabs(in[part] - out[part]) <= closing * (1 + in[part]));
-        printf(apart ? " %.3f in, %.3f OUT" : " %10.3f", in[part], out[part]);
-        open |= apart;
+        int one = fabs(in[part] - out[part]) <= closing * (1 + in[part]);
+        printf(" %10.3f", in[part]);
+        if (!one)
+            printf(" in, %.3f OUT", out[part]);
+        all &= one;
     }
     printf("\n");
-    return !open;
+    return all;
 }
 
 /* Each unit's balance, and the line's: what comes from outside (unit 0) and what goes there. A torn stream has the one flow that settled. */
