@@ -63,7 +63,8 @@ static void towards(struct step *step, double d, double q)
 
 static void draw_factor(struct draw *draw, struct step *step)
 {
-    const double factors[] = {-5, -4, -1, -0.5, 0, 0.5, 1, 3, -6, -1e300, 1e300, beside(draw, -5), beside(draw, DBL_TRUE_MIN), beside(draw, -DBL_TRUE_MIN)};
+    const double factors[] = {-5, -4, -1, -0.5, 0, 0.5, 1, 3, -6, -1e300, 1e300, beside(draw, -5), beside(draw, DBL_TRUE_MIN),
+                              beside(draw, -DBL_TRUE_MIN)};
     double d = sign(draw, draw_percent(draw, 60) ? draw_from(draw, 1, 16) : good_double(draw));
     unsigned dice = draw_below(draw, 10);
     if (dice == 0)
