@@ -3,7 +3,7 @@
 use mathlib.Core.Path.{◌≡◌, refl, sym, ap, ◌∙◌}
 use mathlib.Core.List.{List, [], ◌∷◌, ◌++◌, append-nil, append_assoc}
 use mathlib.Core.Bool.{Bool, true, false}
-use Prim.Native.Nat.{ℕ, suc, ◌+◌, ◌-◌, ◌^◌, ◌<◌, ◌≤◌}
+use Prim.Native.Nat.{ℕ, zero, suc, ◌+◌, ◌-◌, ◌^◌, ◌<◌, ◌≤◌}
 use native.Mathlib.Omega.{arith}
 use native.Mathlib.Numerals.{add-one}
 use borrow.Author.Count.{below_more}
@@ -16,7 +16,7 @@ use Rattle.sets.specs.Sets.{bit}
 use Rattle.blocks.specs.Reach.{joined, round_of}
 use Rattle.blocks.specs.Blocks.{column_of, block_of}
 use Rattle.blocks.specs.Order.{pick, lowest_free, order_from, order_of}
-use Rattle.blocks.proofs.Bits.{bit_off}
+use Rattle.blocks.proofs.Bits.{bit_off, or_none}
 use Rattle.blocks.proofs.Rounds.{row_round, length_round}
 
 -- the rows below i are those after round k, and the others those before it
@@ -62,6 +62,20 @@ module _ (k : ℕ) (rows next : List ℕ) (i : ℕ) (h : i < length rows) (s : T
 pub turned_all : (k : ℕ) (rows next : List ℕ) → Turned k rows next (length rows) → next ≡ round_of k rows
 turned_all k rows next s =
     ext_get_or 0 next (round_of k rows) (s.size ∙ sym (length_round k rows)) (λ i h. s.done i (omega (arith, s.size)))
+
+-- where k reaches nothing, nothing is joined
+pub round_stays : (k : ℕ) (rows : List ℕ) → get_or rows k 0 ≡ 0 → rows ≡ round_of k rows
+round_stays k rows none =
+    turned_all k rows rows
+    (record {
+      size = refl;
+      done = λ j h. sym (row_round k rows j ∙ alone (bit k (get_or rows j 0)) (get_or rows j 0) (get_or rows k 0) none);
+      left = λ j h. refl;
+    })
+  where
+    alone : (b m more : ℕ) → more ≡ 0 → joined b m more ≡ m
+    alone zero m more e = refl
+    alone (suc b) m more e = rw e (or_none m)
 
 -- ---- a column, place by place
 

@@ -110,12 +110,16 @@ impl Reach {
     }
 }
 
-// Round k: whoever reaches k reaches what k reaches.
+// Round k: whoever reaches k reaches what k reaches. Where that is nothing, as at each place beyond the units, no row is looked at.
+#[tactic(auto, using(crate::proofs::Turns::round_stays))]
 fn round(rows: &mut [u64; 64], k: usize)
     requires { k < 64 }
     ensures { rows.new ≡ round_of k rows.old }
 {
     let onward = rows[k];
+    if onward == 0 {
+        return;
+    }
     for row in rows.iter_mut() {
         if has(*row, k) {
             *row |= onward;
