@@ -1,7 +1,8 @@
 // A flowsheet as a value, and reading its image: the flowsheet, or exactly one of the refusals 1 to 10.
 #![tactic(auto)]
 
-ghost use Rattle.std.specs.Prelude.{◌≡◌, ◌↔◌, true, ℕ, List, ◌+◌, ◌*◌, ◌≤◌, length, [], Some, None, if◌then◌else◌};
+ghost use Rattle.std.specs.Prelude.{◌≡◌, ◌↔◌, true, ℕ, List, ◌+◌, ◌*◌, ◌≤◌, length, take, [], Some, None, if◌then◌else◌};
+ghost use Rattle.std.specs.Result.{result_map_both};
 ghost use Rattle.words.specs.Words.{number_at};
 ghost use Rattle.flowsheet.specs.Sheet.{no_stream, sheet_of, place_of, ends_of, known_end, in_turn, weight_fault, stream_fault};
 ghost use Rattle.flowsheet.specs.Answers.{number_of, fault_of, numbered, reading};
@@ -92,12 +93,35 @@ impl From<Refusal> for u32 {
     }
 }
 
-// The place of the unit of that number in the unit table.
+// How many units at the front are passed by, eight by eight, since none of them has that number. (What is left is searched one by one.)
+fn passed(units: &[u16], number: u16) -> usize
+    ensures few { result ≤ length units.now }
+    ensures none { place_of (take result units.now) number ≡ None }
+{
+    for i in 0..units.len() / 8 {
+        if units[8 * i..8 * i + 8].contains(&number) {
+            return 8 * i;
+        }
+    }
+    units.len() / 8 * 8
+}
+
+// The place of the unit of that number, searched one by one.
 #[tactic(auto, unfolding(crate::specs::Sheet::place_of))]
-pub fn place_of(units: &[u16], number: u16) -> Option<usize>
+fn searched(units: &[u16], number: u16) -> Option<usize>
     ensures { result ≡ place_of units.now number }
 {
     units.iter().position(|unit| *unit == number)
+}
+
+// The place of the unit of that number in the unit table.
+#[tactic(auto, using(crate::proofs::Places::past_within))]
+pub fn place_of(units: &[u16], number: u16) -> Option<usize>
+    ensures { result ≡ place_of units.now number }
+{
+    let before = passed(units, number);
+    let place = searched(&units[before..], number)?;
+    Some(before + place)
 }
 
 // The places of a stream's source and receiver, where both are units.
@@ -310,19 +334,22 @@ fn read_record<R: Record>(image: &[u8], at: usize, last: u16) -> Option<R>
     }
 }
 
-// The records of a table in order; reading stops at the first that is refused.
+// Reads the records of a table in order into a row that has none; it stops at the first that is refused. (A row that is handed back in a `Result`
+// is blanked once more and copied at each `?`.)
 fn read_table<R: Record, const N: usize>(
     image: &[u8],
     start: usize,
     count: usize,
     units: &[u16],
-) -> Result<Row<R, N>, Refusal>
+    records: &mut Row<R, N>,
+) -> Result<(), Refusal>
     requires room { count ≤ N }
     requires inside { start + R.WIDTH * count ≤ length image.now }
+    requires none { records.old ≡ [] }
     ensures { let at = λ (i : ℕ). R.held image.now (start + R.WIDTH * i) in
-        numbered result ≡ table_read (fault_at R.number R.OUT_OF_TURN (R.fault units.now) at) at count }
+        let read = result_map_both (λ done. records.new) number_of result in
+        read ≡ table_read (fault_at R.number R.OUT_OF_TURN (R.fault units.now) at) at count }
 {
-    let mut records = Row::new();
     // below every number that is in turn, as `before` of the definitions has it
     let mut last = 0;
     for i in 0..count {
@@ -333,7 +360,7 @@ fn read_table<R: Record, const N: usize>(
         last = record.number();
         records.push(record);
     }
-    Ok(records)
+    Ok(())
 }
 
 // Whether the numbers of a table's records are in turn and all else in them is good.
@@ -378,7 +405,15 @@ pub fn read(image: &[u8]) -> Result<Flowsheet, Refusal>
     ensures { reading result ≡ reading_of image.now }
 {
     let header = read_header(image)?;
-    let units: Units = read_table(image, 16, header.units, &[])?;
-    let streams: Streams = read_table(image, 16 + 2 * header.units, header.streams, units.items())?;
+    let mut units = Units::new();
+    read_table(image, 16, header.units, &[], &mut units)?;
+    let mut streams = Streams::new();
+    read_table(
+        image,
+        16 + 2 * header.units,
+        header.streams,
+        units.items(),
+        &mut streams,
+    )?;
     Ok(Flowsheet { units, streams })
 }

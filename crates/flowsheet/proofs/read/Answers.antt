@@ -12,15 +12,17 @@ returns-in_err-header c =
     rw (p.1, p.2) (refused_header c.args.image.now _ c.in_err-header.ensures)
 
 pub read_table-requires : goal.read_table-requires
-read_table-requires c = (lit< tt, units_fit c.args.image.now c.in_ok-header.header c.in_ok-header.ensures)
+read_table-requires c =
+    let fit = units_fit c.args.image.now c.in_ok-header.header c.in_ok-header.ensures in
+    (lit< tt, (fit.0, (fit.1, c.new-units.ensures)))
 
-pub returns-in_err-units : goal.returns-in_err-units
+pub returns-in_err-read_table : goal.returns-in_err-read_table
 unfolding unit_at
-returns-in_err-units c =
+returns-in_err-read_table c =
     let l : List ℕ = c.args.image.now in
     let h = c.in_ok-header in
-    let p = err_from_is_err_and c.from_residual-in_err-units.result c.from_residual-in_err-units.ensures.1 in
-    rw (p.1, p.2) (refused_units l h.header h.ensures _ (c.in_err-units.ensures ∙ unit_table l h.header.units))
+    let p = err_from_is_err_and c.from_residual-in_err-read_table.result c.from_residual-in_err-read_table.ensures.1 in
+    rw (p.1, p.2) (refused_units l h.header h.ensures _ (c.in_err-read_table.ensures ∙ unit_table l h.header.units))
 
 pub overflow_mul-header : goal.overflow_mul-header
 overflow_mul-header c =
@@ -33,28 +35,28 @@ overflow_add-header c =
     omega arith
 
 pub read_table-requires-2 : goal.read_table-requires-2
-read_table-requires-2 c = (lit< tt, streams_fit c.args.image.now c.in_ok-header.header c.in_ok-header.ensures)
+read_table-requires-2 c =
+    let fit = streams_fit c.args.image.now c.in_ok-header.header c.in_ok-header.ensures in
+    (lit< tt, (fit.0, (fit.1, c.new-streams.ensures)))
 
-pub returns-in_err-streams : goal.returns-in_err-streams
+pub returns-in_err-read_table-2 : goal.returns-in_err-read_table-2
 unfolding unit_at stream_at
-returns-in_err-streams c =
+returns-in_err-read_table-2 c =
     let l : List ℕ = c.args.image.now in
     let h = c.in_ok-header in
-    let us = c.in_ok-units in
-    let p = err_from_is_err_and c.from_residual-in_err-streams.result c.from_residual-in_err-streams.ensures.1 in
-    let u = us.ensures ∙ unit_table l h.header.units in
+    let p = err_from_is_err_and c.from_residual-in_err-read_table-2.result c.from_residual-in_err-read_table-2.ensures.1 in
+    let u = c.in_ok-read_table.ensures ∙ unit_table l h.header.units in
     let same = ap (λ (units : List ℕ). stream_table_of l h.header.units units h.header.streams) c.items.ensures.items in
     rw (p.1, p.2)
-    (refused_streams l h.header h.ensures us.units u _
-    (c.in_err-streams.ensures ∙ stream_table l h.header.units c.items.result.now h.header.streams ∙ same))
+    (refused_streams l h.header h.ensures c.read_table.new.records u _
+    (c.in_err-read_table-2.ensures ∙ stream_table l h.header.units c.items.result.now h.header.streams ∙ same))
 
 pub returns : goal.returns
 unfolding unit_at stream_at
 returns c =
     let l : List ℕ = c.args.image.now in
     let h = c.in_ok-header in
-    let us = c.in_ok-units in
-    let u = us.ensures ∙ unit_table l h.header.units in
+    let u = c.in_ok-read_table.ensures ∙ unit_table l h.header.units in
     let same = ap (λ (units : List ℕ). stream_table_of l h.header.units units h.header.streams) c.items.ensures.items in
-    all_read l h.header h.ensures us.units u c.in_ok-streams.streams
-    (c.in_ok-streams.ensures ∙ stream_table l h.header.units c.items.result.now h.header.streams ∙ same)
+    all_read l h.header h.ensures c.read_table.new.records u c.read_table-2.new.records
+    (c.in_ok-read_table-2.ensures ∙ stream_table l h.header.units c.items.result.now h.header.streams ∙ same)

@@ -13,7 +13,7 @@ pub loop-i-init : goal.loop-i-init
 unfolding table
 loop-i-init g c =
     let e : c.args.count ≡ c.args.count - 0 = omega arith in
-    record { read = c.new-records.ensures; before_it = refl; rest = ap (first_from _ 0) e }
+    record { read = c.requires.none; before_it = refl; rest = ap (first_from _ 0) e }
 
 pub returns-in_default : goal.returns-in_default
 returns-in_default g c =
