@@ -11,7 +11,7 @@ use lib.Ieee.{Float, le}
 use borrow.Author.Tests.{ltb-false, eqb-true, eqb-false, lt-ltb, not-false}
 use Rattle.std.proofs.lemmas.Bool.{or_parts}
 use Rattle.converge.specs.Doubles.{finest, coarsest}
-use Rattle.converge.specs.Row.{usable_row, usable_records, rows_wrong, tolerance_wrong, limit_wrong, values_wrong, records_wrong, refusal_of}
+use Rattle.converge.specs.Row.{usable_row, usable_records, rows_wrong, tolerance_wrong, limit_wrong, values_wrong, records_wrong, refused_or, refusal_of}
 use Rattle.converge.specs.declared.History.{History}
 use Rattle.converge.proofs.Flags.{true_false}
 
@@ -33,6 +33,42 @@ pub record Accepted (x y : List Float) (past : List History) (count method : ℕ
 passed : (b : Bool) (k n : ℕ) → (k ≡ 0 → ⊥) → cond b k n ≡ 0 → (b ≡ false) × (n ≡ 0)
 passed true k n h e = absurd (h e)
 passed false k n h e = (refl, e)
+
+-- 30 to 33, and what is asked behind them
+abbrev tried : Bool → Bool → Bool → Bool → ℕ → ℕ
+tried a b c d later = cond a 30 (cond b 31 (cond c 32 (cond d 33 later)))
+
+module _ (x y : List Float) (records method : ℕ) (tolerance : Float) (limit : ℕ) where
+  pub refused_later : (later : ℕ) → refused_or x y records method tolerance limit 0 ≡ 0 → refused_or x y records method tolerance limit later ≡ later
+  refused_later later e = go (rows_wrong (length x) (length y) records) (tolerance_wrong tolerance) (limit_wrong limit method) (values_wrong x y) e
+    where
+      go : (a b c d : Bool) → tried a b c d 0 ≡ 0 → tried a b c d later ≡ later
+      go false false false false e = refl
+      go true _ _ _ e = absurd (omega arith)
+      go false true _ _ e = absurd (omega arith)
+      go false false true _ e = absurd (omega arith)
+      go false false false true e = absurd (omega arith)
+
+  pub accepted_few : refused_or x y records method tolerance limit 0 ≡ 0 → records ≤ 16
+  unfolding rows_wrong
+  accepted_few e =
+      let a = passed (rows_wrong (length x) (length y) records) 30 _ (λ z. omega arith) e in
+      let b = or_parts (not (eqb (length x) (length y))) _ a.0 in
+      let c = or_parts (not (eqb (length x) records)) _ b.1 in
+      let d = or_parts (eqb (length x) 0) (ltb 16 (length x)) c.1 in
+      let f : length x ≡ records = eqb-true _ _ (not-false _ c.0) in
+      let g : length x ≤ 16 = ltb-false 16 (length x) d.1 in
+      omega arith
+
+  pub refused_early : (later n : ℕ) → (n ≡ 0 → ⊥) → refused_or x y records method tolerance limit 0 ≡ n → refused_or x y records method tolerance limit later ≡ n
+  refused_early later n h e = go (rows_wrong (length x) (length y) records) (tolerance_wrong tolerance) (limit_wrong limit method) (values_wrong x y) e
+    where
+      go : (a b c d : Bool) → tried a b c d 0 ≡ n → tried a b c d later ≡ n
+      go false false false false e = absurd (h (sym e))
+      go true _ _ _ e = e
+      go false true _ _ e = e
+      go false false true _ e = e
+      go false false false true e = e
 
 either_known : (a b : Bool) → (not a && not b) ≡ false → (a ≡ true) ⊎ (b ≡ true)
 either_known true b e = inl refl

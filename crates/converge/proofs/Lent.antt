@@ -1,11 +1,11 @@
 -- What is lent, after a step: on Moved the next values, this x and y and one more; at every other answer all as it stood. Assumes nothing.
 use mathlib.Core.Path.{◌≡◌, refl, sym, ◌∙◌, ap, subst}
 use mathlib.Core.Bool.{Bool, true, false, cond}
-use mathlib.Core.List.{List}
+use mathlib.Core.List.{List, [], ◌∷◌}
 use Prim.Native.Nat.{ℕ, ◌+◌, ◌<◌}
 use native.Mathlib.Omega.{arith}
 use lib.Dec.{eqb}
-use lib.ListN.{length}
+use lib.ListN.{length, get_or}
 use lib.Ieee.{Float}
 use borrow.Author.Tests.{eqb-false, eq-eqb, ne_eqb}
 use Rattle.std.proofs.Common.{Option, None, Some}
@@ -13,14 +13,16 @@ use Rattle.std.specs.List.{find}
 use Rattle.std.specs.Option.{option_map_or}
 use Rattle.converge.specs.Answer.{Answer, number_of, settled, spent, moved, refused, answer_of}
 use Rattle.converge.specs.Doubles.{beyond}
-use Rattle.converge.specs.Row.{Stepped, kept, after, stepped, all_close, largest_of, stray_or, Settles, nexts_of, records_of, refusal_of, judged, verdict_of}
-use Rattle.converge.specs.Promise.{HistoryStep, rows_of, rows_stepped}
+use Rattle.converge.specs.Row.{Stepped, kept, after, stepped, all_close, largest_of, stray_or, Settles, nexts_of, records_of, records_wrong, refused_or, refusal_of, judged, verdict_of}
+use Rattle.converge.specs.Promise.{ValueStep, HistoryStep, Moves, value_stepped, rows_of, rows_stepped}
 use Rattle.converge.specs.declared.History.{History}
 use Rattle.converge.specs.declared.Refusal.{Refusal}
-use Rattle.converge.specs.declared.Refusal.TheVariants.{Rows}
+use Rattle.converge.specs.declared.Refusal.TheVariants.{Rows, Records}
 use Rattle.converge.specs.declared.Verdict.{Verdict}
 use Rattle.converge.specs.declared.Verdict.TheVariants.{Strayed, Moved, Refused}
 use Rattle.converge.proofs.Chains.{stray_found, stray_none}
+use Rattle.converge.proofs.Rows.{nexts_length}
+use Rattle.converge.proofs.Accepted.{accepted, refused_later, refused_early}
 use Rattle.converge.proofs.Verdicts.{moved_accepted}
 
 module _ (x y : List Float) (past : List History) (count method : ℕ) (a : Answer) where
@@ -146,3 +148,61 @@ module _ (x y : List Float) (past : List History) (count method : ℕ) (toleranc
   pub judged-moved : Settles x y count tolerance limit top None → None ≡ find beyond (nexts_of x y past count method)
       → answer_of (Moved top) ≡ judged x y past count method tolerance limit
   judged-moved h e = sym (judged_settles None h ∙ stray_none _ _ (sym e))
+
+-- ---- what is decided before anything is written
+
+module _ (x y : List Float) (past : List History) (count method : ℕ) (tolerance : Float) (limit : ℕ) where
+  numbered : (r : Refusal) → number_of r ≡ 0 → ⊥
+  numbered Rows e = omega arith
+  numbered _ e = omega arith
+
+  -- 30 to 33
+  pub decided_early : (r : Refusal) → refused_or x y (length past) method tolerance limit 0 ≡ number_of r
+      → HistoryStep (stepped x y past count method tolerance limit) (Refused r) x past count
+  unfolding refusal_of
+  decided_early r e =
+      history_refused x y past count method tolerance limit r (refused_early x y (length past) method tolerance limit _ (number_of r) (numbered r) e)
+
+  -- 34, or none
+  pub decided_late : refused_or x y (length past) method tolerance limit 0 ≡ 0 → records_wrong past count limit ≡ true
+      → HistoryStep (stepped x y past count method tolerance limit) (Refused Records) x past count
+  unfolding refusal_of
+  decided_late e h =
+      history_refused x y past count method tolerance limit Records
+      (refused_later x y (length past) method tolerance limit _ e ∙ ap (λ (b : Bool). cond b 34 0) h)
+
+  pub decided_none : refused_or x y (length past) method tolerance limit 0 ≡ 0 → records_wrong past count limit ≡ false
+      → refusal_of x y past count method tolerance limit ≡ 0
+  unfolding refusal_of
+  decided_none e h = refused_later x y (length past) method tolerance limit _ e ∙ ap (λ (b : Bool). cond b 34 0) h
+
+  pub decided_moves : (m : ℕ) → m ≡ method → refusal_of x y past count method tolerance limit ≡ 0
+      → (d : Float) → answer_of (Moved d) ≡ judged x y past count m tolerance limit
+      → Moves (stepped x y past count method tolerance limit) x y past count d (nexts_of x y past count m)
+  decided_moves m known e d f =
+      let a = accepted x y past count method tolerance limit e in
+      let k = history_moved x y past count method tolerance limit m known e d f in
+      record {
+        step = k.1;
+        below = k.0;
+        few = a.few;
+        level = a.level;
+        recorded = a.recorded;
+        next = nexts_length x y past count m a.level a.recorded;
+      }
+
+-- ---- one value
+
+-- a row of one is its first item
+one_item : (l : List Float) (d : Float) → length l ≡ 1 → get_or l 0 d ∷ [] ≡ l
+one_item (v ∷ []) d e = refl
+one_item [] d e = absurd (omega arith)
+one_item (v ∷ w ∷ l) d e = absurd (omega arith)
+
+module _ (x y : Float) (past : History) (count method : ℕ) (tolerance : Float) (limit : ℕ) where
+  pub value_moves : (d v : Float) (nexts : List Float) → Moves (value_stepped x y past count method tolerance limit) (x ∷ []) (y ∷ []) (past ∷ []) count d nexts
+      → ValueStep (value_stepped x y past count method tolerance limit)
+      (record { verdict = Moved d; x = get_or nexts 0 v; past = record { x = x; y = y }; count = count + 1 })
+  unfolding records_of
+  value_moves d v nexts k =
+      record { verdict = k.step.verdict; x = one_item nexts v k.next ∙ k.step.x; past = k.step.past; count = k.step.count }

@@ -1,7 +1,6 @@
 pub mod Flags
 pub mod Sizes
 pub mod Chains
-pub mod Half
 pub mod Rows
 pub mod Says
 pub mod Refusals

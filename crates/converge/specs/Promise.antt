@@ -1,9 +1,10 @@
 -- What the public functions promise: the answer, and everything lent, as the definitions give it.
-use Rattle.std.specs.Prelude.{◌≡◌, cond, List, [], ◌∷◌, map, ℕ, eqb, length, Float}
+use Rattle.std.specs.Prelude.{◌≡◌, cond, List, [], ◌∷◌, map, ℕ, ◌+◌, ◌<◌, ◌≤◌, eqb, length, Float, Result, MatchResult}
 use Rattle.converge.specs.Answer.{Answer, refused, answer_of}
 use Rattle.converge.specs.Row.{Stepped, stepped, records_of}
 use Rattle.converge.specs.declared.History.{History}
 use Rattle.converge.specs.declared.Verdict.{Verdict}
+use Rattle.converge.specs.declared.Verdict.TheVariants.{Moved}
 use Rattle.converge.specs.declared.Step.{Step}
 
 -- The step of one value is the step of rows of one value.
@@ -55,3 +56,19 @@ pub record HistoryStep (s : Stepped) (r : Verdict) (x' : List Float) (past' : Li
   pub x : x' ≡ s.x
   pub past : past' ≡ s.past
   pub count : count' ≡ s.count
+
+-- What Moved writes: the next values over x, this x and y into the records, and one more into the count, where there is room for each.
+pub record Moves (s : Stepped) (x y : List Float) (past : List History) (count : ℕ) (top : Float) (nexts : List Float) : Type 0 where
+  pub step : HistoryStep s (Moved top) nexts (records_of x y) (count + 1)
+  pub below : count < 500
+  pub few : length x ≤ 16
+  pub level : length x ≡ length y
+  pub recorded : length x ≡ length past
+  pub next : length nexts ≡ length x
+
+-- What a step decides before it writes: what Moved carries and the next values, or the verdict at which all stays.
+abbrev pub Decides : List Float → List Float → List History → ℕ → ℕ → Float → ℕ → Result (Float × List Float) Verdict → Type 0
+Decides x y past count method tolerance limit r =
+    MatchResult r
+    (λ m. Moves (stepped x y past count method tolerance limit) x y past count m.0 m.1)
+    (λ v. HistoryStep (stepped x y past count method tolerance limit) v x past count)

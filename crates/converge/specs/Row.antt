@@ -73,6 +73,14 @@ values_wrong x y = not (usable_row x) || not (usable_row y)
 unfoldable pub records_wrong : List History → ℕ → ℕ → Bool
 records_wrong past count limit = ltb limit count || (ltb 0 count && not (usable_records past))
 
+-- 30 to 33 in order, which ask of the records only how many there are; `later` where none of them is given.
+abbrev pub refused_or : List Float → List Float → ℕ → ℕ → Float → ℕ → ℕ → ℕ
+refused_or x y records method tolerance limit later =
+    cond (rows_wrong (length x) (length y) records) 30
+    (cond (tolerance_wrong tolerance) 31
+    (cond (limit_wrong limit method) 32
+    (cond (values_wrong x y) 33 later)))
+
 -- Step: 30 to 34 in order; 0 where the step is not refused.
 unfoldable pub refusal_of : List Float → List Float → List History → ℕ → ℕ → Float → ℕ → ℕ
 refusal_of x y past count method tolerance limit =

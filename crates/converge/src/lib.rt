@@ -8,8 +8,8 @@ ghost use Rattle.std.specs.Float.Ieee.{le};
 ghost use Rattle.converge.specs.declared.History.{History};
 ghost use Rattle.converge.specs.Doubles.{zero64, lowest, larger, mag, usable, beyond};
 ghost use Rattle.converge.specs.Answer.{number_of, method_number, Decodes, Accepts};
-ghost use Rattle.converge.specs.Promise.{ValueStep, RowStep, HistoryStep, value_stepped, rows_stepped};
-ghost use Rattle.converge.specs.Row.{records_of, largest_of, all_close, nexts_of, usable_row, usable_records, rows_wrong, tolerance_wrong, limit_wrong, records_wrong, refusal_of, Settles, stepped};
+ghost use Rattle.converge.specs.Promise.{ValueStep, RowStep, HistoryStep, Decides, value_stepped, rows_stepped};
+ghost use Rattle.converge.specs.Row.{records_of, largest_of, all_close, nexts_of, usable_row, usable_records, rows_wrong, tolerance_wrong, limit_wrong, records_wrong, refused_or, Settles, stepped};
 ghost use Rattle.converge.specs.Value.{gap_of, close, factor_of, next_of, usable_record};
 
 use rows::{Blank, Row};
@@ -236,18 +236,12 @@ fn records_wrong(history: &[History], count: u16, limit: u32) -> bool
     limit < u32::from(count) || (0 < count && !all_fit_records(history))
 }
 
-// The method of a step that isn't refused. The refusals are tried in the order of their numbers.
-#[tactic(auto, unfolding(crate::specs::Row::refusal_of, crate::specs::Row::values_wrong))]
-fn accept(
-    x: &[f64],
-    y: &[f64],
-    history: &[History],
-    count: u16,
-    terms: Terms,
-) -> Result<Method, Refusal>
-    ensures { Accepts (refusal_of x.now y.now history.now count terms.method terms.tolerance terms.limit) terms.method result }
+// The method of a step that isn't refused by 30 to 33, which are tried in order. Of the records it is asked how many there are.
+#[tactic(auto, unfolding(crate::specs::Row::values_wrong))]
+fn accept(x: &[f64], y: &[f64], records: usize, terms: Terms) -> Result<Method, Refusal>
+    ensures { Accepts (refused_or x.now y.now records terms.method terms.tolerance terms.limit 0) terms.method result }
 {
-    if rows_wrong(x.len(), y.len(), history.len()) {
+    if rows_wrong(x.len(), y.len(), records) {
         return Err(Refusal::Rows);
     }
     if tolerance_wrong(terms.tolerance) {
@@ -256,9 +250,6 @@ fn accept(
     let method = method_of(terms)?;
     if !all_fit(x) || !all_fit(y) {
         return Err(Refusal::Values);
-    }
-    if records_wrong(history, count, terms.limit) {
-        return Err(Refusal::Records);
     }
     Ok(method)
 }
@@ -313,16 +304,84 @@ fn settle(x: &[f64], y: &[f64], count: u16, terms: Terms, top: f64) -> Option<Ve
     None
 }
 
-// The records of two rows, of x and of y.
-fn records_of(x: &[f64], y: &[f64]) -> Row<History, 16>
-    requires { length x.now ≤ 16 }
-    ensures { result ≡ records_of x.now y.now }
+// Writes the records of two rows, of x and of y.
+fn write_records(x: &[f64], y: &[f64], history: &mut [History])
+    requires { (length x.now ≡ length history.old) × (length y.now ≡ length history.old) }
+    ensures { history.new ≡ records_of x.now y.now }
 {
-    let mut records = Row::new();
-    for (x, y) in x.iter().zip(y) {
-        records.push(History { x: *x, y: *y });
+    for (i, past) in history.iter_mut().enumerate() {
+        *past = History { x: x[i], y: y[i] };
     }
-    records
+}
+
+// The step of a row that 30 to 33 don't refuse, before anything is written: what Moved carries and the next values, or the
+// verdict at which all stays. 34 is tried here, since it reads the records. It is taken into each step, so that at one value
+// its rows and loops fall away in a program that steps rows too.
+#[inline(always)]
+fn judge(
+    x: &[f64],
+    y: &[f64],
+    history: &[History],
+    count: u16,
+    terms: Terms,
+    method: Method,
+) -> Result<(f64, Row<f64, 16>), Verdict>
+    requires { Accepts (refused_or x.now y.now (length history.now) terms.method terms.tolerance terms.limit 0) terms.method (Ok method) }
+    ensures { Decides x.now y.now history.now count terms.method terms.tolerance terms.limit result }
+{
+    if records_wrong(history, count, terms.limit) {
+        return Err(Verdict::Refused(Refusal::Records));
+    }
+    let top = largest_gap(x, y);
+    if let Some(verdict) = settle(x, y, count, terms, top) {
+        return Err(verdict);
+    }
+    let nexts = nexts_of(x, y, history, count, method);
+    if let Some(next) = first_stray(nexts.items()) {
+        return Err(Verdict::Strayed(next));
+    }
+    Ok((top, nexts))
+}
+
+// The same from 30 on, with the records lent as they are.
+#[inline(always)]
+#[tactic(auto, using(crate::proofs::Lent::decided_early))]
+fn decide(
+    x: &[f64],
+    y: &[f64],
+    history: &[History],
+    count: u16,
+    terms: Terms,
+) -> Result<(f64, Row<f64, 16>), Verdict>
+    ensures { Decides x.now y.now history.now count terms.method terms.tolerance terms.limit result }
+{
+    match accept(x, y, history.len(), terms) {
+        Ok(method) => judge(x, y, history, count, terms, method),
+        Err(refusal) => Err(Verdict::Refused(refusal)),
+    }
+}
+
+// The step of one value, as rows of one: its verdict, and x, record and count as they stand after it. Refuses by 31 to 34.
+pub fn step_value(x: f64, y: f64, past: History, count: u16, terms: Terms) -> Step
+    ensures { ValueStep (value_stepped x y past count terms.method terms.tolerance terms.limit) result }
+{
+    let (top, nexts) = match decide(&[x], &[y], &[past], count, terms) {
+        Ok(moved) => moved,
+        Err(verdict) => {
+            return Step {
+                verdict,
+                x,
+                past,
+                count,
+            };
+        }
+    };
+    Step {
+        verdict: Verdict::Moved(top),
+        x: nexts.items()[0],
+        past: History { x, y },
+        count: count + 1,
+    }
 }
 
 // The step of a row of 1 to 16 values, with one record for each value: on Moved the next values stand in x, the records
@@ -336,55 +395,18 @@ pub fn step_history(
 ) -> Verdict
     ensures { HistoryStep (stepped x.old y.now history.old count.old terms.method terms.tolerance terms.limit) result x.new history.new count.new }
 {
-    let n = *count;
-    let method = match accept(x, y, history, n, terms) {
-        Ok(method) => method,
-        Err(refusal) => return Verdict::Refused(refusal),
+    let (top, nexts) = match decide(x, y, history, *count, terms) {
+        Ok(moved) => moved,
+        Err(verdict) => return verdict,
     };
-    let top = largest_gap(x, y);
-    if let Some(verdict) = settle(x, y, n, terms, top) {
-        return verdict;
-    }
-    let nexts = nexts_of(x, y, history, n, method);
-    if let Some(next) = first_stray(nexts.items()) {
-        return Verdict::Strayed(next);
-    }
-    history.copy_from_slice(records_of(x, y).items());
+    write_records(x, y, history);
     x.copy_from_slice(nexts.items());
-    *count = n + 1;
+    *count += 1;
     Verdict::Moved(top)
 }
 
-// The step of one value, as rows of one: its verdict, and x, record and count as they stand after it. Refuses by 31 to 34.
-pub fn step_value(x: f64, y: f64, past: History, count: u16, terms: Terms) -> Step
-    ensures { ValueStep (value_stepped x y past count terms.method terms.tolerance terms.limit) result }
-{
-    let mut row = [x];
-    let mut records = [past];
-    let mut moves = count;
-    let verdict = step_history(&mut row, &[y], &mut records, &mut moves, terms);
-    Step {
-        verdict,
-        x: row[0],
-        past: records[0],
-        count: moves,
-    }
-}
-
-// Writes the records into two rows of their length.
-fn write_records(history: &[History], past_x: &mut [f64], past_y: &mut [f64])
-    requires { (length past_x.old ≡ length history.now) × (length past_y.old ≡ length history.now) }
-    ensures x { past_x.new ≡ map (λ (p : History). p.x) history.now }
-    ensures y { past_y.new ≡ map (λ (p : History). p.y) history.now }
-{
-    // By index: what is written through a zip of rows isn't known after it, which was tried.
-    for (i, past) in history.iter().enumerate() {
-        past_x[i] = past.x;
-        past_y[i] = past.y;
-    }
-}
-
 // The same step, with the records as two plain rows, of x and of y: two rows are what this function promises its callers.
+#[tactic(auto, using(crate::proofs::Records::rows_early, crate::proofs::Records::rows_stay))]
 pub fn step_row(
     x: &mut [f64],
     y: &[f64],
@@ -395,15 +417,23 @@ pub fn step_row(
 ) -> Verdict
     ensures { RowStep (rows_stepped x.old y.now past_x.old past_y.old count.old terms.method terms.tolerance terms.limit) result x.new past_x.new past_y.new count.new }
 {
-    let n = past_x.len();
-    if n != past_y.len() || 16 < n {
+    if past_x.len() != past_y.len() {
         return Verdict::Refused(Refusal::Rows);
     }
-    // The step writes where its records are lent, and the items of a `Row` are only read.
+    let method = match accept(x, y, past_x.len(), terms) {
+        Ok(method) => method,
+        Err(refusal) => return Verdict::Refused(refusal),
+    };
     let mut places = [History::blank(); 16];
-    let history = &mut places[..n];
-    history.copy_from_slice(records_of(past_x, past_y).items());
-    let verdict = step_history(x, y, history, count, terms);
-    write_records(history, past_x, past_y);
-    verdict
+    let history = &mut places[..past_x.len()];
+    write_records(past_x, past_y, history);
+    let (top, nexts) = match judge(x, y, history, *count, terms, method) {
+        Ok(moved) => moved,
+        Err(verdict) => return verdict,
+    };
+    past_x.copy_from_slice(x);
+    past_y.copy_from_slice(y);
+    x.copy_from_slice(nexts.items());
+    *count += 1;
+    Verdict::Moved(top)
 }

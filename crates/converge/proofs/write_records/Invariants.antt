@@ -1,11 +1,12 @@
--- Below i the two rows are written.
-use Rattle.std.proofs.Common.{map}
-use Rattle.std.specs.Float.{nan}
-use Rattle.converge.specs.declared.History.{History}
-use Rattle.converge.proofs.Half.{Half}
+-- A record stands at each place that was passed.
+use Rattle.std.proofs.Common.{◌≡◌, ℕ, ◌<◌, length, get_or}
+use Rattle.converge.specs.Row.{records_of}
+use Rattle.converge.proofs.Rows.{blank}
 use Rattle.converge.proofs.write_records.Given as goal
 
 abbrev pub invariant-loop-i : goal.invariant-loop-i
 invariant-loop-i l =
-    Half nan l.fn.past_x l.past_x (map (λ (p : History). p.x) l.history) l.i
-    × Half nan l.fn.past_y l.past_y (map (λ (p : History). p.y) l.history) l.i
+    record {
+      size : length l.history ≡ length l.x;
+      so_far : (k : ℕ) → k < l.i → get_or l.history k blank ≡ get_or (records_of l.x l.y) k blank;
+    }
