@@ -66,9 +66,9 @@ pub record Moves (s : Stepped) (x y : List Float) (past : List History) (count :
   pub recorded : length x ≡ length past
   pub next : length nexts ≡ length x
 
--- What a step decides before it writes: what Moved carries and the next values, or the verdict at which all stays.
-abbrev pub Decides : List Float → List Float → List History → ℕ → ℕ → Float → ℕ → Result (Float × List Float) Verdict → Type 0
-Decides x y past count method tolerance limit r =
+-- What a step decides before it writes: what Moved carries, with the next values in `nexts`, or the verdict at which all stays.
+abbrev pub Decides : List Float → List Float → List History → ℕ → ℕ → Float → ℕ → List Float → Result Float Verdict → Type 0
+Decides x y past count method tolerance limit nexts r =
     MatchResult r
-    (λ m. Moves (stepped x y past count method tolerance limit) x y past count m.0 m.1)
+    (λ top. Moves (stepped x y past count method tolerance limit) x y past count top nexts)
     (λ v. HistoryStep (stepped x y past count method tolerance limit) v x past count)

@@ -272,16 +272,21 @@ fn largest_gap(x: &[f64], y: &[f64]) -> f64
         .unwrap_or(0.0)
 }
 
-// Each value's next.
-fn nexts_of(x: &[f64], y: &[f64], history: &[History], count: u16, method: Method) -> Row<f64, 16>
-    requires { length x.now ≤ 16 }
-    ensures { result ≡ nexts_of x.now y.now history.now count (method_number method) }
+// Each value's next, into a row of none: handed back by value it would be copied twice on its way.
+fn push_nexts(
+    x: &[f64],
+    y: &[f64],
+    history: &[History],
+    count: u16,
+    method: Method,
+    nexts: &mut Row<f64, 16>,
+)
+    requires { (length x.now ≤ 16) × (nexts.old ≡ []) }
+    ensures { nexts.new ≡ nexts_of x.now y.now history.now count (method_number method) }
 {
-    let mut nexts = Row::new();
     for ((x, y), past) in x.iter().zip(y).zip(history) {
         nexts.push(next_value(*x, *y, *past, count, method));
     }
-    nexts
 }
 
 // The first next value beyond 1e12 in size.
@@ -314,9 +319,9 @@ fn write_records(x: &[f64], y: &[f64], history: &mut [History])
     }
 }
 
-// The step of a row that 30 to 33 don't refuse, before anything is written: what Moved carries and the next values, or the
-// verdict at which all stays. 34 is tried here, since it reads the records. It is taken into each step, so that at one value
-// its rows and loops fall away in a program that steps rows too.
+// The step of a row that 30 to 33 don't refuse, before anything of it is written: what Moved carries, with the next values in
+// `nexts`, or the verdict at which all stays. 34 is tried here, since it reads the records. It is taken into each step, so that
+// at one value its rows and loops fall away in a program that steps rows too.
 #[inline(always)]
 fn judge(
     x: &[f64],
@@ -325,9 +330,11 @@ fn judge(
     count: u16,
     terms: Terms,
     method: Method,
-) -> Result<(f64, Row<f64, 16>), Verdict>
-    requires { Accepts (refused_or x.now y.now (length history.now) terms.method terms.tolerance terms.limit 0) terms.method (Ok method) }
-    ensures { Decides x.now y.now history.now count terms.method terms.tolerance terms.limit result }
+    nexts: &mut Row<f64, 16>,
+) -> Result<f64, Verdict>
+    requires accepted { Accepts (refused_or x.now y.now (length history.now) terms.method terms.tolerance terms.limit 0) terms.method (Ok method) }
+    requires empty { nexts.old ≡ [] }
+    ensures { Decides x.now y.now history.now count terms.method terms.tolerance terms.limit nexts.new result }
 {
     if records_wrong(history, count, terms.limit) {
         return Err(Verdict::Refused(Refusal::Records));
@@ -336,11 +343,11 @@ fn judge(
     if let Some(verdict) = settle(x, y, count, terms, top) {
         return Err(verdict);
     }
-    let nexts = nexts_of(x, y, history, count, method);
+    push_nexts(x, y, history, count, method, nexts);
     if let Some(next) = first_stray(nexts.items()) {
         return Err(Verdict::Strayed(next));
     }
-    Ok((top, nexts))
+    Ok(top)
 }
 
 // The same from 30 on, with the records lent as they are.
@@ -352,11 +359,13 @@ fn decide(
     history: &[History],
     count: u16,
     terms: Terms,
-) -> Result<(f64, Row<f64, 16>), Verdict>
-    ensures { Decides x.now y.now history.now count terms.method terms.tolerance terms.limit result }
+    nexts: &mut Row<f64, 16>,
+) -> Result<f64, Verdict>
+    requires { nexts.old ≡ [] }
+    ensures { Decides x.now y.now history.now count terms.method terms.tolerance terms.limit nexts.new result }
 {
     match accept(x, y, history.len(), terms) {
-        Ok(method) => judge(x, y, history, count, terms, method),
+        Ok(method) => judge(x, y, history, count, terms, method, nexts),
         Err(refusal) => Err(Verdict::Refused(refusal)),
     }
 }
@@ -365,8 +374,9 @@ fn decide(
 pub fn step_value(x: f64, y: f64, past: History, count: u16, terms: Terms) -> Step
     ensures { ValueStep (value_stepped x y past count terms.method terms.tolerance terms.limit) result }
 {
-    let (top, nexts) = match decide(&[x], &[y], &[past], count, terms) {
-        Ok(moved) => moved,
+    let mut nexts = Row::new();
+    let top = match decide(&[x], &[y], &[past], count, terms, &mut nexts) {
+        Ok(top) => top,
         Err(verdict) => {
             return Step {
                 verdict,
@@ -395,8 +405,9 @@ pub fn step_history(
 ) -> Verdict
     ensures { HistoryStep (stepped x.old y.now history.old count.old terms.method terms.tolerance terms.limit) result x.new history.new count.new }
 {
-    let (top, nexts) = match decide(x, y, history, *count, terms) {
-        Ok(moved) => moved,
+    let mut nexts = Row::new();
+    let top = match decide(x, y, history, *count, terms, &mut nexts) {
+        Ok(top) => top,
         Err(verdict) => return verdict,
     };
     write_records(x, y, history);
@@ -427,8 +438,9 @@ pub fn step_row(
     let mut places = [History::blank(); 16];
     let history = &mut places[..past_x.len()];
     write_records(past_x, past_y, history);
-    let (top, nexts) = match judge(x, y, history, *count, terms, method) {
-        Ok(moved) => moved,
+    let mut nexts = Row::new();
+    let top = match judge(x, y, history, *count, terms, method, &mut nexts) {
+        Ok(top) => top,
         Err(verdict) => return verdict,
     };
     past_x.copy_from_slice(x);

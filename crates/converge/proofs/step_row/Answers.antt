@@ -21,8 +21,8 @@ write_records-requires c =
     let n = sym (length-take-le _ _ (accepted_few _ _ _ _ _ _ c.in-Ok.ensures.1)) in
     (n, sym c.if-past_x-past_y.false ∙ n)
 
-pub judge-requires : goal.judge-requires
-judge-requires c =
+pub judge-requires-clause-accepted : goal.judge-requires-clause-accepted
+judge-requires-clause-accepted c =
     let a = c.args in
     let t = a.terms in
     let n = ap length c.write_records.ensures ∙ records_length _ _ c.if-past_x-past_y.false in

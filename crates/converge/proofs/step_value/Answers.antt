@@ -8,6 +8,6 @@ pub returns : goal.returns
 returns c =
     let a = c.args in
     let t = a.terms in
-    value_moves a.x a.y a.past a.count t.method t.tolerance t.limit c.in-Ok.moved.0 _ c.items.result.now
-    (subst (Moves (value_stepped a.x a.y a.past a.count t.method t.tolerance t.limit) (a.x ∷ []) (a.y ∷ []) (a.past ∷ []) a.count c.in-Ok.moved.0)
+    value_moves a.x a.y a.past a.count t.method t.tolerance t.limit c.in-Ok.top _ c.items.result.now
+    (subst (Moves (value_stepped a.x a.y a.past a.count t.method t.tolerance t.limit) (a.x ∷ []) (a.y ∷ []) (a.past ∷ []) a.count c.in-Ok.top)
     (sym c.items.ensures.items) c.in-Ok.ensures)

@@ -4,7 +4,7 @@ use Rattle.std.proofs.lemmas.Iterator.{YieldsList-from_slice, YieldsList-from_zi
 use Rattle.std.proofs.lemmas.Iterator.Consumers.{YieldsList-end}
 use Rattle.converge.specs.Answer.{method_number}
 use Rattle.converge.proofs.Rows.{next_at, map-map, nexts_map}
-use Rattle.converge.proofs.nexts_of.Goals as goal
+use Rattle.converge.proofs.push_nexts.Goals as goal
 
 pub returns : goal.returns
 returns c =
