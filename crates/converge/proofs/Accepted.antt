@@ -34,11 +34,13 @@ passed : (b : Bool) (k n : ℕ) → (k ≡ 0 → ⊥) → cond b k n ≡ 0 → (
 passed true k n h e = absurd (h e)
 passed false k n h e = (refl, e)
 
--- 30 to 33, and what is asked behind them
+-- ---- 30 to 33, and what is asked behind them
+
 abbrev tried : Bool → Bool → Bool → Bool → ℕ → ℕ
 tried a b c d later = cond a 30 (cond b 31 (cond c 32 (cond d 33 later)))
 
 module _ (x y : List Float) (records method : ℕ) (tolerance : Float) (limit : ℕ) where
+  -- where none of them is given, what is asked behind them decides
   pub refused_later : (later : ℕ) → refused_or x y records method tolerance limit 0 ≡ 0 → refused_or x y records method tolerance limit later ≡ later
   refused_later later e = go (rows_wrong (length x) (length y) records) (tolerance_wrong tolerance) (limit_wrong limit method) (values_wrong x y) e
     where
@@ -49,6 +51,7 @@ module _ (x y : List Float) (records method : ℕ) (tolerance : Float) (limit : 
       go false false true _ e = absurd (omega arith)
       go false false false true e = absurd (omega arith)
 
+  -- there are no more records than a row holds
   pub accepted_few : refused_or x y records method tolerance limit 0 ≡ 0 → records ≤ 16
   unfolding rows_wrong
   accepted_few e =
@@ -60,6 +63,7 @@ module _ (x y : List Float) (records method : ℕ) (tolerance : Float) (limit : 
       let g : length x ≤ 16 = ltb-false 16 (length x) d.1 in
       omega arith
 
+  -- where one is given, nothing behind it is asked
   pub refused_early : (later n : ℕ) → (n ≡ 0 → ⊥) → refused_or x y records method tolerance limit 0 ≡ n → refused_or x y records method tolerance limit later ≡ n
   refused_early later n h e = go (rows_wrong (length x) (length y) records) (tolerance_wrong tolerance) (limit_wrong limit method) (values_wrong x y) e
     where
@@ -69,6 +73,8 @@ module _ (x y : List Float) (records method : ℕ) (tolerance : Float) (limit : 
       go false true _ _ e = e
       go false false true _ e = e
       go false false false true e = e
+
+-- ---- 30 to 34
 
 either_known : (a b : Bool) → (not a && not b) ≡ false → (a ≡ true) ⊎ (b ≡ true)
 either_known true b e = inl refl

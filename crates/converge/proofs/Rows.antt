@@ -20,6 +20,7 @@ records_length [] y e = refl
 records_length (a ∷ x) [] e = absurd (omega arith)
 records_length (a ∷ x) (b ∷ y) e = ap suc (records_length x y (omega arith))
 
+-- what is read beyond a row of records
 abbrev pub blank : History
 blank = record { x = nan; y = nan }
 

@@ -309,7 +309,8 @@ fn settle(x: &[f64], y: &[f64], count: u16, terms: Terms, top: f64) -> Option<Ve
     None
 }
 
-// Writes the records of two rows, of x and of y.
+// Writes the records of two rows, of x and of y. These go by index, since of what is written through a zip nothing is known
+// after it.
 fn write_records(x: &[f64], y: &[f64], history: &mut [History])
     requires { (length x.now ≡ length history.old) × (length y.now ≡ length history.old) }
     ensures { history.new ≡ records_of x.now y.now }
