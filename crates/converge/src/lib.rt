@@ -105,19 +105,19 @@ pub struct Step {
 }
 
 // Whether v is finite and not beyond 1e12 in size.
-#[tactic(auto, using(crate::proofs::Sizes::mag_is), unfolding(crate::specs::Doubles::usable))]
+#[tactic(auto, using(crate::proofs::Sizes::usable_above, crate::proofs::Sizes::usable_below))]
 fn fit(v: f64) -> bool
     ensures { result ≡ usable v }
 {
-    v.abs() <= 1e12
+    -1e12 <= v && v <= 1e12
 }
 
 // Whether the size of v is beyond 1e12.
-#[tactic(auto, using(crate::proofs::Sizes::mag_is), unfolding(crate::specs::Doubles::beyond))]
+#[tactic(auto, using(crate::proofs::Sizes::beyond_above, crate::proofs::Sizes::beyond_below))]
 fn is_beyond(v: f64) -> bool
     ensures { result ≡ beyond v }
 {
-    v.abs() > 1e12
+    v > 1e12 || v < -1e12
 }
 
 // Whether both values of a record are finite and not beyond 1e12 in size.
