@@ -2,6 +2,7 @@
 -- a number is that of one refusal. Assumes nothing.
 use Rattle.std.proofs.Common.{arith, cond, eqb, ◌≡◌, ℕ, List, [], Result, length, refl, sym, ap, ◌∙◌}
 use Rattle.flowsheet.specs.declared.Flowsheet.{Flowsheet}
+use Rattle.flowsheet.specs.declared.Refusal.{Refusal as image_refusal}
 use Rattle.flowsheet.specs.declared.Refusal.TheVariants.{Short}
 use Rattle.flowsheet.proofs.Tables.{number_some as image_some}
 use Rattle.flowsheet.proofs.Settled.{refusal_from as image_from}
@@ -38,13 +39,14 @@ one_plan = one_answer number_of one_refusal number_some planned (λ x. x.number)
 pub one_code : (r s : Result (Unit {0}) Refusal) → code_of r ≡ code_of s → r ≡ s
 one_code = one_answer number_of one_refusal number_some code_of (λ n. n) (λ n. tt) (λ u. refl) (λ u. refl) (λ c. refl)
 
-pub plan_of_settled : (sheet : Flowsheet) (room : ℕ) (r s : Result Plan Refusal) → planned r ≡ planned_of sheet.units sheet.streams room
-    → planned s ≡ planned_of sheet.units sheet.streams room → r ≡ s
-plan_of_settled sheet room r s e f = one_plan r s (e ∙ sym f)
+pub plan_of_settled : (sheet : Flowsheet) (work : List ℕ) (r s : Result Plan Refusal) (w v : List ℕ)
+    → planned r ≡ planned_of sheet.units sheet.streams (length work) → w ≡ work_after work
+    → planned s ≡ planned_of sheet.units sheet.streams (length work) → v ≡ work_after work → (r ≡ s) × (w ≡ v)
+plan_of_settled sheet work r s w v e g f h = (one_plan r s (e ∙ sym f), g ∙ sym h)
 
-pub plan_read_settled : (image : List ℕ) (room : ℕ) (r s : Result Plan Refusal) → planned r ≡ planned_image image room
-    → planned s ≡ planned_image image room → r ≡ s
-plan_read_settled image room r s e f = one_plan r s (e ∙ sym f)
+pub plan_read_settled : (image work : List ℕ) (r s : Result Plan Refusal) (w v : List ℕ) → planned r ≡ planned_image image (length work)
+    → w ≡ work_after work → planned s ≡ planned_image image (length work) → v ≡ work_after work → (r ≡ s) × (w ≡ v)
+plan_read_settled image work r s w v e g f h = (one_plan r s (e ∙ sym f), g ∙ sym h)
 
 -- two results of planning on one image, with one buffer and one memory, have one number and leave both alike
 pub planning_one : {image buffer work b c w v : List ℕ} {m n : ℕ} → Planning image buffer work m b w → Planning image buffer work n c v
@@ -59,6 +61,13 @@ planning_one {image} {buffer} {work} e f =
 pub plan_image_settled : (image buffer work : List ℕ) (r s : Result (Unit {0}) Refusal) (b c w v : List ℕ)
     → Planning image buffer work (code_of r) b w → Planning image buffer work (code_of s) c v → (r ≡ s) × (b ≡ c) × (w ≡ v)
 plan_image_settled image buffer work r s b c w v e f = let one = planning_one e f in (one_code r s one.0, one.1, one.2)
+
+-- a refusal's number, and reading's refusal as planning's own
+pub number_settled : (r : Refusal) (m n : ℕ) → m ≡ number_of r → n ≡ number_of r → m ≡ n
+number_settled r m n e f = e ∙ sym f
+
+pub image_settled : (why : image_refusal) (r s : Refusal) → r ≡ Image why → s ≡ Image why → r ≡ s
+image_settled why r s e f = e ∙ sym f
 
 pub no_plan_settled : (r s : Plan) → r ≡ plan_value [] → s ≡ plan_value [] → r ≡ s
 no_plan_settled r s e f = e ∙ sym f
