@@ -3,6 +3,7 @@ use Rattle.std.proofs.Common.{◌≡◌, ℕ, List, [], Result, cond, eqb, refl,
 use Rattle.flowsheet.specs.Sheet.{sheet_of}
 use Rattle.flowsheet.proofs.Settled.{refusal_from as sheet_from}
 use Rattle.flowsheet.proofs.Told.{by_number, one_answer}
+use Rattle.flowsheet.specs.declared.Refusal.{Refusal as sheet_refusal}
 use Rattle.flowsheet.specs.declared.Refusal.TheVariants.{Short}
 use Rattle.planner.specs.Answer.{code_of as planner_code}
 use Rattle.planner.specs.declared.Refusal.{Refusal as planner_refusal}
@@ -41,6 +42,9 @@ one_code = one_answer number_of one_refusal number_some code_of (λ n. n) (λ n.
 
 pub number_settled : (r : Refusal) (a b : ℕ) → a ≡ number_of r → b ≡ number_of r → a ≡ b
 number_settled r a b e f = e ∙ sym f
+
+pub sheet_settled : (why : sheet_refusal) (r s : Refusal) → r ≡ Sheet why → s ≡ Sheet why → r ≡ s
+sheet_settled why r s e f = e ∙ sym f
 
 pub empty_settled : (r s : Session) → r ≡ session_of (sheet_of [] []) → s ≡ session_of (sheet_of [] []) → r ≡ s
 empty_settled r s e f = e ∙ sym f
