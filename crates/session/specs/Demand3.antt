@@ -1,4 +1,4 @@
--- Demand 3: edits keep the plan true. A reader who believes 01's words on edits believes this file: what calls may come after one another, what the
+-- Demand 3: edits keep the plan true. A reader who believes the rules' words on edits believes this file: what calls may come after one another, what the
 -- flowsheet and the plan held are after each, and which blocks an edit leaves exactly as they were. It speaks of calls by what they promise alone
 -- (`Opening`, `Editing`). That all of it holds is in proofs/Demand3.antt.
 use Rattle.std.specs.Prelude.{◌≡◌, ℕ, suc}
