@@ -42,17 +42,24 @@ struct Answered {
     session: Session,
 }
 
-// An image, opened over an empty session.
-fn opened(numbers: &Numbers) -> Answered {
+// An image, opened over an empty session with so many bytes of working memory.
+fn opened_in(numbers: &Numbers, work: usize) -> Answered
+    requires { work ≤ 65536 }
+{
     let numbers = numbers.items();
     let image = images::lent(numbers);
     let mut session = Session::empty();
     let mut memory = [255; 65536];
-    let number = match session.open(&image[..2 * numbers.len()], &mut memory) {
+    let number = match session.open(&image[..2 * numbers.len()], &mut memory[..work]) {
         Ok(()) => 0,
         Err(refusal) => u32::from(refusal),
     };
     Answered { number, session }
+}
+
+// The same with enough memory.
+fn opened(numbers: &Numbers) -> Answered {
+    opened_in(numbers, 65536)
 }
 
 // A session after an edit, with so many bytes of working memory.
@@ -78,6 +85,16 @@ fn planned(rt: &impl Print, name: &str, came: &Answered, wanted: Tables) -> io::
         torn: plan.torn.items(),
     };
     report::line(rt, name, right, &tables, &wanted)
+}
+
+// The case of an opening whose number is wanted: 0, or a refusal's, and then the empty session stays.
+fn opening(rt: &impl Print, name: &str, image: &Numbers, work: usize, wanted: u32) -> io::Result<()>
+    requires { work ≤ 65536 }
+{
+    let came = opened_in(image, work);
+    let stayed = came.number == 0 || came.session == Session::empty();
+    let right = came.number == wanted && stayed;
+    report::line(rt, name, right, &came.number, &wanted)
 }
 
 // The case of an edit whose number is wanted: 0, or a refusal's, and then the session stays.
@@ -140,6 +157,14 @@ fn on_paper(rt: &impl Print, a: &Answered) -> io::Result<()> {
     planned(rt, "A without stream 6", &d, plan_d)
 }
 
+fn openings(rt: &impl Print) -> io::Result<()> {
+    let a = plans::case_a();
+    opening(rt, "A opened in 65535 bytes of memory", &a, 65535, 12)?;
+    opening(rt, "A opened in 65536 bytes of memory", &a, 65536, 0)?;
+    opening(rt, "ring of 12 opened", &plans::ring(12), 65536, 0)?;
+    opening(rt, "ring of 13 opened", &plans::ring(13), 65536, 11)
+}
+
 fn memories(rt: &impl Print, a: &Session) -> io::Result<()> {
     numbered(rt, "65535 bytes of memory", a, Edit::AddUnit(8), 65535, 12)?;
     numbered(rt, "65536 bytes of memory", a, Edit::AddUnit(8), 65536, 0)?;
@@ -151,11 +176,15 @@ fn memories(rt: &impl Print, a: &Session) -> io::Result<()> {
 }
 
 fn numbers(rt: &impl Print, a: &Session) -> io::Result<()> {
+    let empty = Session::empty();
     tried(rt, "unit 0 added", a, Edit::AddUnit(0), 20)?;
+    tried(rt, "unit 1 added", &empty, Edit::AddUnit(1), 0)?;
     tried(rt, "unit 9999 added", a, Edit::AddUnit(9999), 0)?;
     tried(rt, "unit 10000 added", a, Edit::AddUnit(10000), 20)?;
     tried(rt, "unit 7 added, which is held", a, Edit::AddUnit(7), 21)?;
+    let one = edited(&empty, Edit::AddUnit(1), 65536).session;
     tried(rt, "stream 0 added", a, stream(0, 4, 1, 1), 20)?;
+    tried(rt, "stream 1 added", &one, stream(1, 1, 0, 1), 0)?;
     tried(rt, "stream 9999 added", a, stream(9999, 4, 1, 1), 0)?;
     tried(rt, "stream 10000 added", a, stream(10000, 4, 1, 1), 20)?;
     let held = stream(7, 4, 1, 1);
@@ -256,6 +285,7 @@ fn closed(rt: &impl Print, name: &str, count: u16, wanted: u32) -> io::Result<()
 pub(crate) fn run(rt: &impl Print) -> io::Result<()> {
     let a = opened(&plans::case_a());
     on_paper(rt, &a)?;
+    openings(rt)?;
     memories(rt, &a.session)?;
     numbers(rt, &a.session)?;
     rooms(rt)?;

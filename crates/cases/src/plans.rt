@@ -168,7 +168,7 @@ fn planned(
 }
 
 // The image of a ring of units.
-fn ring(count: u16) -> Numbers
+pub(crate) fn ring(count: u16) -> Numbers
     requires { (0 < count) × (count ≤ 65) }
 {
     images::image_of(
