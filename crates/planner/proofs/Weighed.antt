@@ -15,7 +15,7 @@ use lib.Seq.{get_or-set_same, get_or-set_other}
 use Rattle.flowsheet.specs.Sheet.{place_of}
 use Rattle.std.specs.Prelude.{Option, Some, None}
 use Rattle.flowsheet.specs.declared.Stream.{Stream}
-use Rattle.tearing.specs.Order.{Perm, upto, choose, stands_before, sum, torn, place_of as stands_at}
+use Rattle.tearing.specs.Order.{Perm, upto, choose, stands_before, sum_over, torn, place_of as stands_at}
 use Rattle.tearing.specs.Row.{weights}
 use Rattle.flowsheet.proofs.Places.{place_found, place_cases, place_nowhere}
 use Rattle.tearing.proofs.Lists.{each_map, Distinct, distinct_perm, rising_upto, rising_distinct, upto_below, sum-append, sum_zero, sum_agree, sum_same, sum_add}
@@ -156,14 +156,14 @@ row_weights block d few ss i j h k =
 torn_add : (A B : ℕ → ℕ → ℕ) (S o : List ℕ) → torn (λ i j. A i j + B i j) S o ≡ torn A S o + torn B S o
 unfolding torn
 torn_add A B S o =
-    sum_same (λ i. sum (λ j. choose (stands_before i j o) 0 (A i j + B i j)) S)
-    (λ i. sum (λ j. choose (stands_before i j o) 0 (A i j)) S + sum (λ j. choose (stands_before i j o) 0 (B i j)) S) S
+    sum_same (λ i. sum_over (λ j. choose (stands_before i j o) 0 (A i j + B i j)) S)
+    (λ i. sum_over (λ j. choose (stands_before i j o) 0 (A i j)) S + sum_over (λ j. choose (stands_before i j o) 0 (B i j)) S) S
     (λ i.
     sum_same (λ j. choose (stands_before i j o) 0 (A i j + B i j))
     (λ j. choose (stands_before i j o) 0 (A i j) + choose (stands_before i j o) 0 (B i j)) S
     (λ j. split (stands_before i j o) (A i j) (B i j))
     ∙ sum_add (λ j. choose (stands_before i j o) 0 (A i j)) (λ j. choose (stands_before i j o) 0 (B i j)) S)
-    ∙ sum_add (λ i. sum (λ j. choose (stands_before i j o) 0 (A i j)) S) (λ i. sum (λ j. choose (stands_before i j o) 0 (B i j)) S) S
+    ∙ sum_add (λ i. sum_over (λ j. choose (stands_before i j o) 0 (A i j)) S) (λ i. sum_over (λ j. choose (stands_before i j o) 0 (B i j)) S) S
   where
     split : (b : Bool) (x y : ℕ) → choose b 0 (x + y) ≡ choose b 0 x + choose b 0 y
     split true x y = refl
@@ -172,18 +172,18 @@ torn_add A B S o =
 torn_none : (S o : List ℕ) → torn (λ i j. 0) S o ≡ 0
 unfolding torn
 torn_none S o =
-    sum_same (λ i. sum (λ j. choose (stands_before i j o) 0 0) S) (λ i. 0) S
+    sum_same (λ i. sum_over (λ j. choose (stands_before i j o) 0 0) S) (λ i. 0) S
     (λ i. sum_same (λ j. choose (stands_before i j o) 0 0) (λ j. 0) S (λ j. choose_nothing (stands_before i j o)) ∙ sum_zero S)
     ∙ sum_zero S
 
 -- of the places below n one is a
-sum_one : (n a c : ℕ) → a < n → sum (λ i. choose (eqb a i) c 0) (upto n) ≡ c
+sum_one : (n a c : ℕ) → a < n → sum_over (λ i. choose (eqb a i) c 0) (upto n) ≡ c
 sum_one zero a c h = absurd (omega arith)
 sum_one (suc n) a c h =
     sum-append (λ i. choose (eqb a i) c 0) (upto n) (n ∷ [])
     ∙ ⊎_elim
     (λ (e : a ≡ n).
-    let none : sum (λ i. choose (eqb a i) c 0) (upto n) ≡ 0 =
+    let none : sum_over (λ i. choose (eqb a i) c 0) (upto n) ≡ 0 =
     sum_agree (λ i. choose (eqb a i) c 0) (λ i. 0) (upto n)
     (each_map (λ i. i < n) (λ i. choose (eqb a i) c 0 ≡ 0) (upto n)
     (λ i l. ap (λ (b : Bool). choose b c 0) (ne_eqb a i (λ (q : a ≡ i). omega arith))) (upto_below n)) ∙ sum_zero (upto n) in
@@ -191,7 +191,7 @@ sum_one (suc n) a c h =
     (λ (l : a < n). omega (arith, sum_one n a c l, ap (λ (b : Bool). choose b c 0) (ne_eqb a n (λ (q : a ≡ n). omega arith))))
     (eq-or-lt_of_le (le_of_suc-le-suc h))
 
-sum-choose : (b : Bool) (f : ℕ → ℕ) (S : List ℕ) → sum (λ j. choose b (f j) 0) S ≡ choose b (sum f S) 0
+sum-choose : (b : Bool) (f : ℕ → ℕ) (S : List ℕ) → sum_over (λ j. choose b (f j) 0) S ≡ choose b (sum_over f S) 0
 sum-choose true f S = refl
 sum-choose false f S = sum_zero S
 
@@ -200,7 +200,7 @@ torn_one : (n a b x : ℕ) (o : List ℕ) → a < n → b < n
     → torn (λ i j. choose (eqb a i) (choose (eqb b j) x 0) 0) (upto n) o ≡ choose (stands_before a b o) 0 x
 unfolding torn
 torn_one n a b x o h k =
-    sum_same (λ i. sum (λ j. choose (stands_before i j o) 0 (choose (eqb a i) (choose (eqb b j) x 0) 0)) (upto n))
+    sum_same (λ i. sum_over (λ j. choose (stands_before i j o) 0 (choose (eqb a i) (choose (eqb b j) x 0) 0)) (upto n))
     (λ i. choose (eqb a i) (choose (stands_before a b o) 0 x) 0) (upto n)
     (λ i.
     sum_same (λ j. choose (stands_before i j o) 0 (choose (eqb a i) (choose (eqb b j) x 0) 0))

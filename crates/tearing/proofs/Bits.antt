@@ -7,7 +7,7 @@ use Prim.Native.Nat.{ℕ, zero, suc, ◌+◌, ◌*◌, ◌-◌, ◌/◌, ◌%◌
 use native.Mathlib.Omega.{arith}
 use native.Mathlib.Nat.{pow-succ', eq-or-lt_of_le, le_of_suc-le-suc, mul_assoc}
 use lib.Pow.{pow_pos}
-use Rattle.tearing.specs.Order.{Pick, here, there, upto, sum}
+use Rattle.tearing.specs.Order.{Pick, here, there, upto, sum_over}
 use Rattle.tearing.specs.Weight.{into, all}
 use Rattle.sets.specs.Sets.{bit, only, members}
 use Rattle.sets.proofs.Sets.{bit_lt}
@@ -195,7 +195,7 @@ members-pick (suc k) m {u} p =
 -- ---- sums over the members of a set
 
 module _ (f : ℕ → ℕ) where
-  only_add : (k x y z : ℕ) → z ≡ x + y → z < 2 → sum f (only z k) ≡ sum f (only x k) + sum f (only y k)
+  only_add : (k x y z : ℕ) → z ≡ x + y → z < 2 → sum_over f (only z k) ≡ sum_over f (only x k) + sum_over f (only y k)
   only_add k zero zero zero e h = refl
   only_add k zero zero (suc z) e h = absurd (omega arith)
   only_add k zero (suc y) zero e h = absurd (omega arith)
@@ -205,7 +205,7 @@ module _ (f : ℕ → ℕ) where
   only_add k (suc x) (suc y) z e h = absurd (omega arith)
 
   -- digit by digit
-  members_add : (k m a b : ℕ) → ((j : ℕ) → bit j m ≡ bit j a + bit j b) → sum f (members k m) ≡ sum f (members k a) + sum f (members k b)
+  members_add : (k m a b : ℕ) → ((j : ℕ) → bit j m ≡ bit j a + bit j b) → sum_over f (members k m) ≡ sum_over f (members k a) + sum_over f (members k b)
   unfolding members
   members_add zero m a b h = refl
   members_add (suc k) m a b h =
@@ -218,25 +218,25 @@ module _ (f : ℕ → ℕ) where
 
   -- a low part and a high part
   pub members_join : (k d a b : ℕ) → a < 2 ^ d
-      → sum f (members k (a + 2 ^ d * b)) ≡ sum f (members k a) + sum f (members k (2 ^ d * b))
+      → sum_over f (members k (a + 2 ^ d * b)) ≡ sum_over f (members k a) + sum_over f (members k (2 ^ d * b))
   members_join k d a b h = members_add k (a + 2 ^ d * b) a (2 ^ d * b) (λ j. bit_join d j a b h)
 
   -- one member alone
-  pub members_pow : (k d : ℕ) → d < k → sum f (members k (2 ^ d)) ≡ f d
+  pub members_pow : (k d : ℕ) → d < k → sum_over f (members k (2 ^ d)) ≡ f d
   members_pow k d h =
       let z : 2 ^ d - 2 ^ d ≡ 0 = omega arith in
       let e = ap (λ (x : ℕ). members k x) z ∙ members_zero k in
-      omega (arith, sum-pick f (pick-members k (2 ^ d) d h (bit_pow d)), ap (λ (S : List ℕ). sum f S) e)
+      omega (arith, sum-pick f (pick-members k (2 ^ d) d h (bit_pow d)), ap (λ (S : List ℕ). sum_over f S) e)
 
   -- no set has more than all
-  pub members_most : (k m : ℕ) → sum f (members k m) ≤ sum f (upto k)
+  pub members_most : (k m : ℕ) → sum_over f (members k m) ≤ sum_over f (upto k)
   unfolding members
   members_most zero m = omega arith
   members_most (suc k) m =
       rw (sum-append f (members k m) (only (bit k m) k), sum-append f (upto k) (k ∷ []))
       (omega (arith, members_most k m, one (bit k m)))
     where
-      one : (b : ℕ) → sum f (only b k) ≤ sum f (k ∷ [])
+      one : (b : ℕ) → sum_over f (only b k) ≤ sum_over f (k ∷ [])
       one zero = omega arith
       one (suc b) = omega arith
 

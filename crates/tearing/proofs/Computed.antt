@@ -1,4 +1,4 @@
--- `best` is the best order of the places below n. What the scan holds is before every order that begins with a place it has seen; as the
+-- `best` is the best order of the places below n. What the search holds is before every order that begins with a place it has seen; as the
 -- places rise, of two that tear as little the one that begins earlier is first. Assumes nothing.
 use mathlib.Core.Path.{◌≡◌, refl, sym, ap, ◌∙◌, subst}
 use mathlib.Core.Logic.{inl, inr, ⊎_elim}
@@ -11,7 +11,7 @@ use borrow.Author.Tests.{le-leb, lt-leb}
 use lib.ListN.{length}
 use Rattle.tearing.specs.Order.{Pick, here, there, Perm, none, next, upto, less, same}
 use Rattle.tearing.specs.Weight.{weight, Before, Best}
-use Rattle.tearing.specs.Best.{Found, lighter, begun, scan, best_of, best}
+use Rattle.tearing.specs.Best.{Found, lighter, begun, lightest_from, best_of, best}
 use Rattle.tearing.proofs.Lists.{pick-length, pick_middle, length-upto, Each, each_pick, Rising, rising_pick, rising_upto}
 use Rattle.tearing.proofs.Weight.{best_unique, weight_next, best_nil}
 
@@ -75,7 +75,7 @@ module _ (W : ℕ → ℕ → ℕ) where
       → S ≡ front ++ u ∷ back
       → Rising (u ∷ back)
       → ((v : ℕ) (R : List ℕ) → Pick v S R → Good R (g R))
-      → Ahead S front (u ∷ back) (scan W S g front u back)
+      → Ahead S front (u ∷ back) (lightest_from W S g front u back)
   scanned S front u [] g e h good =
       let p : Pick u S (front ++ []) = rw e (pick_middle front u []) in
       let r = g (front ++ []) in
@@ -84,7 +84,7 @@ module _ (W : ℕ → ℕ → ℕ) where
   scanned S front u (v ∷ back) g e h good =
       let p : Pick u S (front ++ v ∷ back) = rw e (pick_middle front u (v ∷ back)) in
       let rest = scanned S (front ++ (u ∷ [])) v back g (e ∙ sym (append_assoc front (u ∷ []) (v ∷ back))) h.1 good in
-      joins S front u (v ∷ back) (g (front ++ v ∷ back)) (scan W S g (front ++ (u ∷ [])) v back) p (good u (front ++ v ∷ back) p) h.0 rest
+      joins S front u (v ∷ back) (g (front ++ v ∷ back)) (lightest_from W S g (front ++ (u ∷ [])) v back) p (good u (front ++ v ∷ back) p) h.0 rest
       (dec_le _ _)
 
   good_of : (k : ℕ) (S : List ℕ) → length S ≤ k → Rising S → Good S (best_of W k S)

@@ -7,7 +7,7 @@ use Prim.Native.Nat.{ℕ, zero, suc, ◌+◌, ◌<◌, ◌≤◌}
 use native.Mathlib.Omega.{arith}
 use native.Mathlib.Nat.{eq-or-lt_of_le, le_of_suc-le-suc}
 use lib.ListN.{length, get_or, length-append}
-use Rattle.tearing.specs.Order.{Pick, here, there, Perm, none, next, upto, sum}
+use Rattle.tearing.specs.Order.{Pick, here, there, Perm, none, next, upto, sum_over}
 
 pub pick-length : {u : ℕ} {S R : List ℕ} → Pick u S R → length S ≡ suc (length R)
 pick-length here = refl
@@ -101,43 +101,43 @@ rising_upto (suc n) = rising_last (upto n) n (rising_upto n) (upto_below n)
 -- ---- sums
 
 module _ (f : ℕ → ℕ) where
-  pub sum-append : (S T : List ℕ) → sum f (S ++ T) ≡ sum f S + sum f T
+  pub sum-append : (S T : List ℕ) → sum_over f (S ++ T) ≡ sum_over f S + sum_over f T
   sum-append [] T = omega arith
   sum-append (x ∷ S) T = omega (arith, sum-append S T)
 
-  pub sum-pick : {u : ℕ} {S R : List ℕ} → Pick u S R → sum f S ≡ f u + sum f R
+  pub sum-pick : {u : ℕ} {S R : List ℕ} → Pick u S R → sum_over f S ≡ f u + sum_over f R
   sum-pick here = refl
   sum-pick (there p) = omega (arith, sum-pick p)
 
-  pub sum_perm : {S o : List ℕ} → Perm S o → sum f S ≡ sum f o
+  pub sum_perm : {S o : List ℕ} → Perm S o → sum_over f S ≡ sum_over f o
   sum_perm none = refl
   sum_perm (next p q) = omega (arith, sum-pick p, sum_perm q)
 
 -- a part is at most the whole
-pub sum-upto : (f : ℕ → ℕ) (n u : ℕ) → u < n → f u ≤ sum f (upto n)
+pub sum-upto : (f : ℕ → ℕ) (n u : ℕ) → u < n → f u ≤ sum_over f (upto n)
 sum-upto f zero u h = absurd (omega arith)
 sum-upto f (suc n) u h =
     rw (sum-append f (upto n) (n ∷ []))
     (⊎_elim (λ (e : u ≡ n). omega (arith, ap f e)) (λ l. omega (arith, sum-upto f n u l)) (eq-or-lt_of_le (le_of_suc-le-suc h)))
 
-pub sum_zero : (S : List ℕ) → sum (λ x. 0) S ≡ 0
+pub sum_zero : (S : List ℕ) → sum_over (λ x. 0) S ≡ 0
 sum_zero [] = refl
 sum_zero (x ∷ S) = omega (arith, sum_zero S)
 
 module _ (f g : ℕ → ℕ) where
   -- functions that agree on the members have the same sum
-  pub sum_agree : (S : List ℕ) → Each (λ x. f x ≡ g x) S → sum f S ≡ sum g S
+  pub sum_agree : (S : List ℕ) → Each (λ x. f x ≡ g x) S → sum_over f S ≡ sum_over g S
   sum_agree [] h = refl
   sum_agree (x ∷ S) h = omega (arith, h.0, sum_agree S h.1)
 
-  pub sum_same : (S : List ℕ) → ((x : ℕ) → f x ≡ g x) → sum f S ≡ sum g S
+  pub sum_same : (S : List ℕ) → ((x : ℕ) → f x ≡ g x) → sum_over f S ≡ sum_over g S
   sum_same [] h = refl
   sum_same (x ∷ S) h = omega (arith, h x, sum_same S h)
 
-  pub sum_mono : (S : List ℕ) → ((x : ℕ) → f x ≤ g x) → sum f S ≤ sum g S
+  pub sum_mono : (S : List ℕ) → ((x : ℕ) → f x ≤ g x) → sum_over f S ≤ sum_over g S
   sum_mono [] h = omega arith
   sum_mono (x ∷ S) h = omega (arith, h x, sum_mono S h)
 
-  pub sum_add : (S : List ℕ) → sum (λ x. f x + g x) S ≡ sum f S + sum g S
+  pub sum_add : (S : List ℕ) → sum_over (λ x. f x + g x) S ≡ sum_over f S + sum_over g S
   sum_add [] = refl
   sum_add (x ∷ S) = omega (arith, sum_add S)

@@ -7,7 +7,7 @@ use native.Mathlib.Omega.{arith}
 use borrow.Author.Tests.{eq-eqb, ne_eqb, le-ltb, lt-ltb}
 use lib.ListN.{length, get_or}
 use lib.Dec.{ltb, leb-suc-suc}
-use Rattle.tearing.specs.Order.{Perm, upto, choose, place_of, stands_before, sum, torn}
+use Rattle.tearing.specs.Order.{Perm, upto, choose, place_of, stands_before, sum_over, torn}
 use Rattle.tearing.specs.Weight.{weight}
 use Rattle.tearing.proofs.Lists.{each_at, each_map, Distinct, distinct_perm, sum_perm, sum_agree, sum_same, sum_add, sum_zero, upto_below}
 
@@ -45,31 +45,31 @@ module _ (W : ℕ → ℕ → ℕ) where
   past_first : (u i j : ℕ) (o : List ℕ) → (u ≡ i → ⊥) → (u ≡ j → ⊥) → Part (u ∷ o) i j ≡ Part o i j
   past_first u i j o n m = rw (place_later u i o n, place_later u j o m, leb-suc-suc (suc (place_of i o)) (place_of j o))
 
-  weighs : (o : List ℕ) → Distinct o → sum (λ i. sum (λ j. Part o i j) o) o ≡ weight W o
+  weighs : (o : List ℕ) → Distinct o → sum_over (λ i. sum_over (λ j. Part o i j) o) o ≡ weight W o
   weighs [] d = refl
   weighs (u ∷ o) d =
       let own = into-first u u o in
-      let out : sum (λ j. Part (u ∷ o) u j) o ≡ 0 =
+      let out : sum_over (λ j. Part (u ∷ o) u j) o ≡ 0 =
       sum_agree (λ j. Part (u ∷ o) u j) (λ j. 0) o
       (each_map (λ j. u ≡ j → ⊥) (λ j. Part (u ∷ o) u j ≡ 0) o (λ j n. out_first u j o n) d.0) ∙ sum_zero o in
-      let rest : sum (λ i. Part (u ∷ o) i u + sum (λ j. Part (u ∷ o) i j) o) o ≡ sum (λ i. W i u + sum (λ j. Part o i j) o) o =
-      sum_agree (λ i. Part (u ∷ o) i u + sum (λ j. Part (u ∷ o) i j) o) (λ i. W i u + sum (λ j. Part o i j) o) o
-      (each_map (λ i. u ≡ i → ⊥) (λ i. Part (u ∷ o) i u + sum (λ j. Part (u ∷ o) i j) o ≡ W i u + sum (λ j. Part o i j) o) o
+      let rest : sum_over (λ i. Part (u ∷ o) i u + sum_over (λ j. Part (u ∷ o) i j) o) o ≡ sum_over (λ i. W i u + sum_over (λ j. Part o i j) o) o =
+      sum_agree (λ i. Part (u ∷ o) i u + sum_over (λ j. Part (u ∷ o) i j) o) (λ i. W i u + sum_over (λ j. Part o i j) o) o
+      (each_map (λ i. u ≡ i → ⊥) (λ i. Part (u ∷ o) i u + sum_over (λ j. Part (u ∷ o) i j) o ≡ W i u + sum_over (λ j. Part o i j) o) o
       (λ i n.
       let a = into-first u i o in
       let b = sum_agree (λ j. Part (u ∷ o) i j) (λ j. Part o i j) o
       (each_map (λ j. u ≡ j → ⊥) (λ j. Part (u ∷ o) i j ≡ Part o i j) o (λ j m. past_first u i j o n m) d.0) in
       omega arith)
       d.0) in
-      let parts = sum_add (λ i. W i u) (λ i. sum (λ j. Part o i j) o) o in
+      let parts = sum_add (λ i. W i u) (λ i. sum_over (λ j. Part o i j) o) o in
       let less = weighs o d.1 in
       omega arith
 
   pub torn-weight : {S o : List ℕ} → Distinct S → Perm S o → torn W S o ≡ weight W o
   unfolding torn
   torn-weight {S} {o} d p =
-      sum_same (λ i. sum (λ j. Part o i j) S) (λ i. sum (λ j. Part o i j) o) S (λ i. sum_perm (λ j. Part o i j) p)
-      ∙ sum_perm (λ i. sum (λ j. Part o i j) o) p
+      sum_same (λ i. sum_over (λ j. Part o i j) S) (λ i. sum_over (λ j. Part o i j) o) S (λ i. sum_perm (λ j. Part o i j) p)
+      ∙ sum_perm (λ i. sum_over (λ j. Part o i j) o) p
       ∙ weighs o (distinct_perm p d)
 
 -- only the weights between the places below n count
@@ -77,8 +77,8 @@ pub torn_agree : (W X : ℕ → ℕ → ℕ) (n : ℕ) (o : List ℕ) → ((i j 
     → torn W (upto n) o ≡ torn X (upto n) o
 unfolding torn
 torn_agree W X n o h =
-    sum_agree (λ i. sum (λ j. Part W o i j) (upto n)) (λ i. sum (λ j. Part X o i j) (upto n)) (upto n)
-    (each_map (λ i. i < n) (λ i. sum (λ j. Part W o i j) (upto n) ≡ sum (λ j. Part X o i j) (upto n)) (upto n)
+    sum_agree (λ i. sum_over (λ j. Part W o i j) (upto n)) (λ i. sum_over (λ j. Part X o i j) (upto n)) (upto n)
+    (each_map (λ i. i < n) (λ i. sum_over (λ j. Part W o i j) (upto n) ≡ sum_over (λ j. Part X o i j) (upto n)) (upto n)
     (λ i l.
     sum_agree (λ j. Part W o i j) (λ j. Part X o i j) (upto n)
     (each_map (λ j. j < n) (λ j. Part W o i j ≡ Part X o i j) (upto n)

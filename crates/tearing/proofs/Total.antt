@@ -5,7 +5,7 @@ use mathlib.Core.List.{List, [], ◌∷◌}
 use Prim.Native.Nat.{ℕ, zero, suc, ◌+◌, ◌*◌, ◌-◌, ◌<◌, ◌≤◌}
 use native.Mathlib.Omega.{arith}
 use lib.ListN.{length, get_or, set, replicate}
-use Rattle.tearing.specs.Order.{upto, sum}
+use Rattle.tearing.specs.Order.{upto, sum_over}
 use Rattle.tearing.specs.Weight.{into, all}
 use Rattle.tearing.specs.Row.{weights, total}
 use Rattle.tearing.proofs.Lists.{sum-append, sum_add, sum_same, sum_zero}
@@ -56,7 +56,7 @@ front_mono w i (suc d) = omega (arith, front_mono w i d, ap (front w) (add_left 
     add_left x y = omega arith
 
 -- a place's part of the row
-row_sum : (w : List ℕ) (i b : ℕ) → front w (i * 12) + sum (λ j. weights w i j) (upto b) ≡ front w (i * 12 + b)
+row_sum : (w : List ℕ) (i b : ℕ) → front w (i * 12) + sum_over (λ j. weights w i j) (upto b) ≡ front w (i * 12 + b)
 row_sum w i zero = omega (arith, ap (front w) (add_right (i * 12)))
   where
     add_right : (x : ℕ) → x + 0 ≡ x

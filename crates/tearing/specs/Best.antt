@@ -22,15 +22,15 @@ abbrev pub begun : (ℕ → ℕ → ℕ) → List ℕ → ℕ → Found → Foun
 begun W S u rest = record { weight = into W u S + rest.weight; order = u ∷ rest.order }
 
 -- the lightest that begins with u or with one of back, where S is front, u and back
-abbrev pub scan : (ℕ → ℕ → ℕ) → List ℕ → (List ℕ → Found) → List ℕ → ℕ → List ℕ → Found
-scan W S g front u [] = begun W S u (g (front ++ []))
-scan W S g front u (v ∷ back) = lighter (begun W S u (g (front ++ v ∷ back))) (scan W S g (front ++ (u ∷ [])) v back)
+abbrev pub lightest_from : (ℕ → ℕ → ℕ) → List ℕ → (List ℕ → Found) → List ℕ → ℕ → List ℕ → Found
+lightest_from W S g front u [] = begun W S u (g (front ++ []))
+lightest_from W S g front u (v ∷ back) = lighter (begun W S u (g (front ++ v ∷ back))) (lightest_from W S g (front ++ (u ∷ [])) v back)
 
 -- the best order of S, which has at most as many members as the first number says
 abbrev pub best_of : (ℕ → ℕ → ℕ) → ℕ → List ℕ → Found
 best_of W zero S = record { weight = 0; order = [] }
 best_of W (suc k) [] = record { weight = 0; order = [] }
-best_of W (suc k) (u ∷ S) = scan W (u ∷ S) (best_of W k) [] u S
+best_of W (suc k) (u ∷ S) = lightest_from W (u ∷ S) (best_of W k) [] u S
 
 -- the best order of the places below n
 unfoldable pub best : (ℕ → ℕ → ℕ) → ℕ → List ℕ

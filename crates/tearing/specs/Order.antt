@@ -32,14 +32,14 @@ abbrev pub stands_before : ℕ → ℕ → List ℕ → Bool
 stands_before i j o = ltb (place_of i o) (place_of j o)
 
 -- the sum of f over the members of S
-abbrev pub sum : (ℕ → ℕ) → List ℕ → ℕ
-sum f [] = 0
-sum f (x ∷ S) = f x + sum f S
+abbrev pub sum_over : (ℕ → ℕ) → List ℕ → ℕ
+sum_over f [] = 0
+sum_over f (x ∷ S) = f x + sum_over f S
 
 -- "the torn streams are the streams with both ends in the block whose source doesn't stand before their receiver. A stream from a unit to
 -- itself is always torn.": what they weigh, of the streams from i to j nothing where i stands before j, and else all
 unfoldable pub torn : (ℕ → ℕ → ℕ) → List ℕ → List ℕ → ℕ
-torn W S o = sum (λ i. sum (λ j. choose (stands_before i j o) 0 (W i j)) S) S
+torn W S o = sum_over (λ i. sum_over (λ j. choose (stands_before i j o) 0 (W i j)) S) S
 
 -- "compared unit by unit, lower number first": o is p, or comes before it
 pub data Lex : List ℕ → List ℕ → Type 0 where

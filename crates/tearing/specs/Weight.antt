@@ -1,11 +1,11 @@
 -- What an order tears, as a recursion on the order: each place pays for the streams into it from itself and from those that stand after it.
 -- `Best` and `Least` say of a whole set of places what the table holds and what is read off it.
 use Rattle.std.specs.Prelude.{◌≡◌, ◌⊎◌, List, [], ◌∷◌, ℕ, ◌+◌, ◌<◌, ◌≤◌}
-use Rattle.tearing.specs.Order.{Perm, Lex, sum}
+use Rattle.tearing.specs.Order.{Perm, Lex, sum_over}
 
 -- the weight of the streams into u from R
 abbrev pub into : (ℕ → ℕ → ℕ) → ℕ → List ℕ → ℕ
-into W u R = sum (λ w. W w u) R
+into W u R = sum_over (λ w. W w u) R
 
 -- what an order tears
 abbrev pub weight : (ℕ → ℕ → ℕ) → List ℕ → ℕ
@@ -30,4 +30,4 @@ pub record Least (W : ℕ → ℕ → ℕ) (S : List ℕ) (x : ℕ) : Type 0 whe
 
 -- the weight of all streams from R into S
 abbrev pub all : (ℕ → ℕ → ℕ) → List ℕ → List ℕ → ℕ
-all W S R = sum (λ u. into W u R) S
+all W S R = sum_over (λ u. into W u R) S
