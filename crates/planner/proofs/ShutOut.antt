@@ -5,7 +5,7 @@ use mathlib.Core.Bool.{false}
 use mathlib.Core.Path.{◌≡◌, refl, sym, ap, subst, ◌∙◌}
 use Prim.Native.Nat.{ℕ, zero, suc, ◌≤◌, ◌<◌}
 use native.Mathlib.Omega.{arith}
-use lib.ListN.{length, get_or}
+use lib.ListN.{length}
 use Rattle.std.proofs.Common.{Ok}
 use Rattle.flowsheet.specs.Good.{Good}
 use Rattle.flowsheet.specs.Image.{unit_list, stream_list, answer_of}
