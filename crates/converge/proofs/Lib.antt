@@ -11,5 +11,6 @@ pub mod Finite
 pub mod Largest
 pub mod Sound
 pub mod Bound
+pub mod Moves
 pub mod Settled
 pub mod Records

@@ -5,7 +5,7 @@ use mathlib.Core.List.{List, [], ◌∷◌}
 use Prim.Native.Nat.{ℕ}
 use lib.Dec.{eqb}
 use lib.Ieee.{Float}
-use Rattle.converge.specs.Answer.{Answer, answer_of}
+use Rattle.converge.specs.Answer.{Answer, number_of, answer_of}
 use Rattle.converge.specs.Row.{Stepped}
 use Rattle.converge.specs.Promise.{ValueStep, Rows as TwoRows, RowStep, HistoryStep}
 use Rattle.converge.specs.declared.History.{History}
@@ -34,6 +34,9 @@ back_is _ = refl
 
 pub answer_one : (v w : Verdict) → answer_of v ≡ answer_of w → v ≡ w
 answer_one v w e = sym (back_is v) ∙ ap verdict_back e ∙ back_is w
+
+pub number_settled : (r : Refusal) (m n : ℕ) → m ≡ number_of r → n ≡ number_of r → m ≡ n
+number_settled r m n e f = e ∙ sym f
 
 -- ---- the three public functions
 
