@@ -97,16 +97,19 @@ struct value {
     uint8_t x[8], record[16], count[2], answer[9];
 };
 
-/* Takes the same step so many times, each from the same value. */
-static void take_steps(stepper *step, const struct value *begun, double y, uint32_t method, struct value *left, double *fastest)
+/* Takes the same step so many times, each of a value of its own that began the same; gives the last. They are laid out before the time begins: a
+   step that reads what was written just before, in other portions, waits for it. */
+static struct value take_steps(stepper *step, const struct value *begun, double y, uint32_t method, double *fastest)
 {
+    static struct value values[STEPS];
     struct timespec from;
+    for (int i = 0; i < STEPS; i++)
+        values[i] = *begun;
     clock_gettime(CLOCK_MONOTONIC, &from);
-    for (int i = 0; i < STEPS; i++) {
-        *left = *begun;
-        same &= step(left->x, 8, y, left->record, 16, left->count, 2, method, 1e-9, 100, left->answer, 9) == 0;
-    }
+    for (struct value *v = values; v < values + STEPS; v++)
+        same &= step(v->x, 8, y, v->record, 16, v->count, 2, method, 1e-9, 100, v->answer, 9) == 0;
     keep_fastest(fastest, &from);
+    return values[STEPS - 1];
 }
 
 static void time_step(const char *what, double y, uint32_t method)
@@ -119,8 +122,8 @@ static void time_step(const char *what, double y, uint32_t method)
     memcpy(begun.record, last, sizeof last);
     memcpy(begun.count, &count, sizeof count);
     for (int i = 0; i < TURNS; i++) {
-        take_steps(najmudhil_step, &begun, y, method, &proved, &library);
-        take_steps(plain_step, &begun, y, method, &plain, &in_c);
+        proved = take_steps(najmudhil_step, &begun, y, method, &library);
+        plain = take_steps(plain_step, &begun, y, method, &in_c);
     }
     same &= memcmp(&proved, &plain, sizeof proved) == 0;
     printf("  %-32s  %9.1f ns  %9.1f ns   %5.2f\n", what, 1e3 * library / STEPS, 1e3 * in_c / STEPS, library / in_c);
