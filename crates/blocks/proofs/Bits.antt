@@ -86,10 +86,6 @@ and_right j a b h = omega (arith, bit-bit_and j a b, bit_lt j b)
 
 -- ---- a set that lies in another
 
--- with nothing more it stays
-pub or_none : (m : ℕ) → bit_or m 0 ≡ m
-or_none = bin_ind (λ (m : ℕ). bit_or m 0 ≡ m) refl (λ m ih. omega (arith, or_step m 0))
-
 pub or_within : (a m : ℕ) → ((j : ℕ) → bit j a ≡ 1 → bit j m ≡ 1) → bit_or a m ≡ m
 or_within =
     bin_ind (λ (a : ℕ). (m : ℕ) → ((j : ℕ) → bit j a ≡ 1 → bit j m ≡ 1) → bit_or a m ≡ m) (λ m h. refl)

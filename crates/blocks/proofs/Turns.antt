@@ -12,11 +12,12 @@ use lib.Bits.{bit_or}
 use lib.ListN.{length, get_or, set, length-append, length-set}
 use lib.Seq.{get_or-set_same, get_or-set_other, ext_get_or}
 use Rattle.std.specs.Prelude.{◌==◌}
+use Rattle.std.specs.Int.Bits.{or_zero_r}
 use Rattle.sets.specs.Sets.{bit}
 use Rattle.blocks.specs.Reach.{joined, round_of}
 use Rattle.blocks.specs.Blocks.{column_of, block_of}
 use Rattle.blocks.specs.Order.{pick, lowest_free, order_from, order_of}
-use Rattle.blocks.proofs.Bits.{bit_off, or_none}
+use Rattle.blocks.proofs.Bits.{bit_off}
 use Rattle.blocks.proofs.Rounds.{row_round, length_round}
 
 -- the rows below i are those after round k, and the others those before it
@@ -75,7 +76,7 @@ round_stays k rows none =
   where
     alone : (b m more : ℕ) → more ≡ 0 → joined b m more ≡ m
     alone zero m more e = refl
-    alone (suc b) m more e = rw e (or_none m)
+    alone (suc b) m more e = rw e (or_zero_r m)
 
 -- ---- a column, place by place
 

@@ -1,6 +1,7 @@
 // Convergence steps for one torn stream of 1 to 16 values: successive substitution and bounded Wegstein, in doubles,
-// with one rounding for each operation in the order written. The step is that of a row with its records lent as a row of
-// structs; one value, and records lent as two plain rows, step by it.
+// with one rounding for each operation in the order written. What a step decides is told by `judge` before anything is
+// written; the steps of one value, of a row with its records lent as a row of structs, and of one with records as two
+// plain rows stand over it, and each writes at Moved alone.
 #![tactic(auto)]
 
 ghost use Rattle.std.specs.Prelude.{◌≡◌, true, [], ◌∷◌, ◌<◌, ◌≤◌, cond, map, length, find};
